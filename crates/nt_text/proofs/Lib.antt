@@ -1,0 +1,5 @@
+pub mod Runs
+pub mod Iris
+pub mod Triples
+pub mod Documents
+pub mod Irirefs
