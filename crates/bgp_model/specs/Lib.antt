@@ -1,0 +1,4 @@
+pub mod Filling
+pub mod Order
+pub mod Row
+pub mod Solutions
