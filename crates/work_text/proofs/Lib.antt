@@ -1,0 +1,2 @@
+pub mod WorkLines
+pub mod WorkScan

@@ -1,0 +1,8 @@
+use Rattle.std.proofs.Common.{◌≡◌, ◌+◌, ◌++◌, drop}
+use Rattle.work_text.specs.Report.{commits_text}
+use Rattle.work_text.proofs.write.write_commits.Given as goal
+
+abbrev pub invariant-loop-before : goal.invariant-loop-before
+invariant-loop-before l =
+    l.out.items ++ commits_text (l.opened + l.before + 1) (drop l.before l.origins)
+    ≡ l.initial.out.items ++ commits_text (l.opened + 1) l.origins

@@ -1,0 +1,11 @@
+//! What was read under a name.
+use term_core::List;
+
+/// A document as it was read, up to a limit.
+#[derive(Debug, Drop)]
+pub enum Doc {
+    Bytes(List<u8>),
+    /// There is no document of that name.
+    Missing,
+    TooLarge,
+}

@@ -1,0 +1,29 @@
+//! Committed changes and where they came from.
+use term_core::{List, Statement};
+
+#[derive(Clone, Copy, Debug, PartialEq, Eq)]
+pub enum Kind {
+    Add,
+    Remove,
+}
+
+/// A change of the graph. Its blank nodes have the time 0; they are bound where it is committed.
+#[derive(Debug, Drop)]
+pub struct Change {
+    pub kind: Kind,
+    pub statements: List<Statement>,
+}
+
+/// Who committed a change: a session, from 1, and the place of the command in it, from 1.
+#[derive(Clone, Copy, Debug, PartialEq, Eq)]
+pub struct Origin {
+    pub session: u32,
+    pub command: u32,
+}
+
+/// An entry of the history.
+#[derive(Debug, Drop)]
+pub struct Committed {
+    pub change: Change,
+    pub origin: Origin,
+}

@@ -1,0 +1,94 @@
+//! Reading a line of a work.
+ghost use Rattle.std.specs.Prelude.{◌≡◌, ◌≢◌, ◌↔◌, ◌++◌, ℕ, List as Bytes, IfOk, IsTrue, MatchOption, codes};
+ghost use Rattle.std.specs.List.{list_all};
+ghost use Rattle.work_text.specs.Work.{IsName, is_name_byte};
+ghost use Rattle.work_text.specs.WorkReading.{IsReadingOf};
+
+use crate::work::{Command, Line};
+use std::alloc::Global;
+use std::str;
+use term_core::{List, Text, Want};
+
+/// A document's name has at most so many bytes.
+const LONGEST_NAME: usize = 200;
+
+/// Whether the line is the first of a work.
+pub fn is_header(line: &[u8]) -> bool
+    ensures { IsTrue result ↔ (line.now ≡ codes "bigfed 1") }
+{
+    line == b"bigfed 1".as_slice()
+}
+
+/// The command that stands on a line, where one does.
+pub fn line_of(alloc: Global, text: &[u8]) -> Result<Option<Line>, Want>
+    ensures { IfOk result (IsReadingOf text.now) }
+{
+    if let Some(name) = behind_load(text) {
+        let Some(name) = name_of(name) else {
+            return Ok(None);
+        };
+        let command = Command::Load(Text::of(alloc, name)?);
+        return Ok(Some(Line {
+            session: 1,
+            command,
+        }));
+    }
+    let Some(query) = behind_query(text) else {
+        return Ok(None);
+    };
+    if query.is_empty() {
+        return Ok(None);
+    }
+    let command = Command::Query(List::of(Vec::from_slice(alloc, query)?));
+    Ok(Some(Line {
+        session: 1,
+        command,
+    }))
+}
+
+fn behind_load(text: &[u8]) -> Option<&[u8]>
+    ensures { MatchOption result
+        ((rest : Bytes ℕ) → text.now ≢ codes "1 load " ++ rest)
+        (λ rest. text.now ≡ codes "1 load " ++ rest.now) }
+{
+    text.strip_prefix(b"1 load ".as_slice())
+}
+
+fn behind_query(text: &[u8]) -> Option<&[u8]>
+    ensures { MatchOption result
+        ((rest : Bytes ℕ) → text.now ≢ codes "1 query " ++ rest)
+        (λ rest. text.now ≡ codes "1 query " ++ rest.now) }
+{
+    text.strip_prefix(b"1 query ".as_slice())
+}
+
+/// The bytes as a document's name, where they are one.
+fn name_of(bytes: &[u8]) -> Option<&str>
+    ensures { MatchOption result (¬ IsName bytes.now) (λ name. (name.now ≡ bytes.now) × IsName bytes.now) }
+{
+    if !is_name(bytes) {
+        return None;
+    }
+    str::from_utf8(bytes).ok()
+}
+
+fn is_name(bytes: &[u8]) -> bool
+    ensures { IsTrue result ↔ IsName bytes.now }
+{
+    match bytes.first() {
+        None => false,
+        Some(first) => *first != b'.' && bytes.len() <= LONGEST_NAME && are_name_bytes(bytes),
+    }
+}
+
+fn are_name_bytes(bytes: &[u8]) -> bool
+    ensures { result ≡ list_all is_name_byte bytes.now }
+{
+    bytes.iter().all(|b| is_name_byte(*b))
+}
+
+fn is_name_byte(b: u8) -> bool
+    ensures { result ≡ is_name_byte b }
+{
+    matches!(b, b'A'..=b'Z' | b'a'..=b'z' | b'0'..=b'9' | b'.' | b'_' | b'-')
+}

@@ -1,0 +1,42 @@
+//! Reports: what became of each command, and which changes were committed.
+use crate::history::Origin;
+use bgp_model::Solution;
+use term_core::{List, Text};
+
+/// What became of a command. All but the first two are refusals, and a refused command changes nothing.
+#[derive(Debug, Drop)]
+pub enum Outcome {
+    /// A change was committed at this time.
+    Loaded {
+        time: u64,
+    },
+    /// The solutions of a query over the graph of this time, in the order of their printed lines.
+    Answered {
+        time: u64,
+        columns: List<Text>,
+        rows: List<Solution>,
+    },
+    NoDocument,
+    DocumentTooLarge,
+    /// A line of the document has a form that is not read today.
+    NotBuilt {
+        line: u32,
+    },
+    /// The query has a form that is not read today.
+    QueryNotBuilt,
+    /// The query has over 1,000,000 rows at this time.
+    TooMany {
+        time: u64,
+    },
+}
+
+/// What a run did.
+#[derive(Debug, Drop)]
+pub struct RunReport {
+    /// How many changes the history had when the run began.
+    pub opened: u64,
+    /// For each session, from session 1 on, the outcomes of its commands in order.
+    pub outcomes: List<List<Outcome>>,
+    /// Where each change of the run came from, in the order of their times.
+    pub origins: List<Origin>,
+}

@@ -1,0 +1,163 @@
+use super::*;
+use bgp_model::Solution;
+use std::alloc::Global;
+use std::process::Abort;
+use std::test::Fail;
+use term_core::{List, Term, Text, Want};
+
+/// A line of a session for each, a load where that is said and else a query.
+fn lines(alloc: Global, told: &[(u32, bool)]) -> Result<Work, Want> {
+    let mut lines = Vec::new(alloc);
+    for (session, loads) in told {
+        lines.push(Line {
+            session: *session,
+            command: command(alloc, *loads)?,
+        })?;
+    }
+    Ok(Work {
+        lines: List::of(lines),
+    })
+}
+
+fn command(alloc: Global, loads: bool) -> Result<Command, Want> {
+    if loads {
+        return Ok(Command::Load(Text::of(alloc, "a.nt")?));
+    }
+    let text = Vec::from_slice(alloc, b"SELECT * WHERE { ?s ?p ?o }")?;
+    Ok(Command::Query(List::of(text)))
+}
+
+fn origins(alloc: Global, told: &[(u32, u32)]) -> Result<List<Origin>, Want> {
+    let mut origins = Vec::new(alloc);
+    for (session, command) in told {
+        origins.push(Origin {
+            session: *session,
+            command: *command,
+        })?;
+    }
+    Ok(List::of(origins))
+}
+
+fn answered(
+    alloc: Global,
+    time: u64,
+    names: &[&str],
+    rows: Vec<Solution>,
+) -> Result<Outcome, Want> {
+    let mut columns = Vec::new(alloc);
+    for name in names {
+        columns.push(Text::of(alloc, name)?)?;
+    }
+    Ok(Outcome::Answered {
+        time,
+        columns: List::of(columns),
+        rows: List::of(rows),
+    })
+}
+
+fn row(alloc: Global, iris: &[&str]) -> Result<Solution, Want> {
+    let mut cells = Vec::new(alloc);
+    for iri in iris {
+        cells.push(Some(Term::Iri(Text::of(alloc, iri)?)))?;
+    }
+    Ok(Solution {
+        cells: List::of(cells),
+    })
+}
+
+fn expect(
+    rt: &(impl Abort + AllocGlobal),
+    report: &RunReport,
+    work: &Work,
+    text: &str,
+) -> Result<(), Want> {
+    let mut out = Vec::new(rt.alloc());
+    out.extend_from_slice(b"before\n")?;
+    let commits = report.origins.items().len();
+    assert!(rt; report.opened < 100);
+    assert!(rt; commits < 100);
+    write_report(rt.alloc(), report, work, &mut out)?;
+    let (before, printed) = out.as_slice().split_at(out.len().min(7));
+    assert_eq!(rt; before, b"before\n".as_slice());
+    assert_eq!(rt; printed, text.as_bytes());
+    Ok(())
+}
+
+#[test]
+fn nothing_was_done(rt: HostRuntime) -> Result<(), Fail> {
+    let report = RunReport {
+        opened: 0,
+        outcomes: List::of(Vec::new(rt.alloc())),
+        origins: List::of(Vec::new(rt.alloc())),
+    };
+    let work = lines(rt.alloc(), &[])?;
+    expect(&rt, &report, &work, "opened 0\nhistory 0\n")?;
+    Ok(())
+}
+
+fn first_outcomes(alloc: Global) -> Result<List<Outcome>, Want> {
+    let empty = answered(alloc, 10, &["s", "long_name"], Vec::new(alloc))?;
+    let outcomes = vec![in alloc;
+        Outcome::Loaded { time: 10 },
+        empty,
+        Outcome::NoDocument,
+        Outcome::DocumentTooLarge,
+        Outcome::NotBuilt { line: 4294967295 },
+        Outcome::QueryNotBuilt,
+    ]?;
+    Ok(List::of(outcomes))
+}
+
+fn third_outcomes(alloc: Global) -> Result<List<Outcome>, Want> {
+    let outcomes = vec![in alloc; Outcome::Loaded { time: 11 }, Outcome::TooMany { time: 11 }]?;
+    Ok(List::of(outcomes))
+}
+
+/// The second session has no commands, and the third one's lines stand between those of the first.
+#[test]
+fn each_outcome_is_printed(rt: HostRuntime) -> Result<(), Fail> {
+    let alloc = rt.alloc();
+    let outcomes = vec![in alloc;
+        first_outcomes(alloc)?,
+        List::of(Vec::new(alloc)),
+        third_outcomes(alloc)?,
+    ]?;
+    let report = RunReport {
+        opened: 9,
+        outcomes: List::of(outcomes),
+        origins: origins(alloc, &[(1, 1), (3, 1)])?,
+    };
+    let told = [
+        (1, true),
+        (1, false),
+        (3, true),
+        (1, true),
+        (1, true),
+        (3, false),
+        (1, true),
+        (1, false),
+    ];
+    let text = "opened 9\nsession 1\n1 load time 10\n2 query time 10 rows 0\n?s\t?long_name\n\
+        3 load refused no document\n4 load refused document too large\n\
+        5 load refused not built line 4294967295\n6 query refused query not built\nsession 3\n\
+        1 load time 11\n2 query refused too many rows time 11\nhistory 2\n10 1 1\n11 3 1\n";
+    expect(&rt, &report, &lines(alloc, &told)?, text)?;
+    Ok(())
+}
+
+#[test]
+fn rows_are_printed(rt: HostRuntime) -> Result<(), Fail> {
+    let alloc = rt.alloc();
+    let row = row(alloc, &["http://e/a", "http://e/p", "http://e/b"])?;
+    let answered = answered(alloc, 1, &["s", "p", "o"], vec![in alloc; row]?)?;
+    let outcomes = vec![in alloc; Outcome::Loaded { time: 1 }, answered]?;
+    let report = RunReport {
+        opened: 0,
+        outcomes: List::of(vec![in alloc; List::of(outcomes)]?),
+        origins: origins(alloc, &[(1, 1)])?,
+    };
+    let text = "opened 0\nsession 1\n1 load time 1\n2 query time 1 rows 1\n?s\t?p\t?o\n\
+        <http://e/a>\t<http://e/p>\t<http://e/b>\nhistory 1\n1 1 1\n";
+    expect(&rt, &report, &lines(alloc, &[(1, true), (1, false)])?, text)?;
+    Ok(())
+}
