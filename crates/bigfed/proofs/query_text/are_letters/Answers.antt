@@ -1,0 +1,10 @@
+use Rattle.std.proofs.Common.{rules, tests}
+use Rattle.std.proofs.lemmas.Iterator.{YieldsList-from_slice}
+use Rattle.std.proofs.lemmas.Iterator.Search.{all_from_yields_List}
+use Rattle.term_core.specs.Characters.{is_letter}
+use Rattle.bigfed.proofs.query_text.are_letters.Goals as goal
+
+pub returns : goal.returns
+returns c =
+    all_from_yields_List is_letter _ _ _ c.all.ensures.ran (YieldsList-from_slice c.args.name.now cc)
+    (λ x b q k. search (rules, tests))

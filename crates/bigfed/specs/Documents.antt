@@ -1,0 +1,21 @@
+-- The documents that a run was given.
+use Rattle.std.specs.Prelude.{ℕ, List, Option, IsSome, IfSome}
+use Rattle.std.specs.BTreeMap.{get, BTreeMap}
+use Rattle.std.specs.Option.{unwrap_or}
+use Rattle.std.specs.Ordering.{nat_cmp}
+use Rattle.std.specs.Cmp.Lexicographic.{slice_cmp}
+use Rattle.work_text.specs.declared.docs.Doc.{Doc}
+use Rattle.work_text.specs.declared.docs.Doc.TheVariants.{Missing}
+use Rattle.work_text.specs.Outside.{IsDocOf}
+
+-- the documents by name; there is none under a name that was not asked for
+abbrev pub docs_of : BTreeMap (List ℕ) Doc → List ℕ → Doc
+docs_of docs name = unwrap_or (get (slice_cmp nat_cmp) docs name) Missing
+
+-- a document was read under the name
+abbrev pub Holds : BTreeMap (List ℕ) Doc → List ℕ → Type 0
+Holds docs name = IsSome (get (slice_cmp nat_cmp) docs name)
+
+-- each document is the one that the shelf has under its name
+abbrev pub AreDocsOf : Option (List (List ℕ × List ℕ)) → BTreeMap (List ℕ) Doc → Type 0
+AreDocsOf told docs = (name : List ℕ) → IfSome (get (slice_cmp nat_cmp) docs name) (IsDocOf told 33554432 name)

@@ -1,0 +1,77 @@
+-- A report is legal where it tells one history, from the empty one on, and answers from it. Today there is one session.
+use Rattle.std.specs.Prelude.{◌≡◌, ℕ, ◌+◌, ◌<◌, ◌≤◌, List, [], ◌∷◌, ◌++◌, length, map, ◌⊎◌}
+use Rattle.std.specs.List.{slice_get}
+use Rattle.std.specs.Option.{unwrap_or}
+use Rattle.term_core.specs.declared.statement.Statement.{Statement}
+use Rattle.nt_text.specs.Document.{IsDocument, IsBadLine}
+use Rattle.bgp_model.specs.declared.query.Query.{Query}
+use Rattle.bgp_model.specs.declared.solution.Solution.{Solution}
+use Rattle.bgp_model.specs.Solutions.{Solutions}
+use Rattle.work_text.specs.declared.docs.Doc.{Doc}
+use Rattle.work_text.specs.declared.docs.Doc.TheVariants.{Bytes, Missing, TooLarge}
+use Rattle.work_text.specs.declared.history.Kind.TheVariants.{Add}
+use Rattle.work_text.specs.declared.history.Change.{Change}
+use Rattle.work_text.specs.declared.history.Committed.{Committed}
+use Rattle.work_text.specs.declared.history.Origin.{Origin}
+use Rattle.work_text.specs.declared.report.Outcome.{Outcome}
+use Rattle.work_text.specs.declared.report.Outcome.TheVariants.{Loaded, Answered, NoDocument, DocumentTooLarge, NotBuilt, QueryNotBuilt, TooMany}
+use Rattle.work_text.specs.declared.report.RunReport.{RunReport}
+use Rattle.work_text.specs.declared.work.Command.{Command}
+use Rattle.work_text.specs.declared.work.Command.TheVariants.{Load, Query as Ask}
+use Rattle.work_text.specs.declared.work.Line.{Line}
+use Rattle.work_text.specs.declared.work.Work.{Work}
+use Rattle.work_text.specs.History.{History, graph_at}
+use Rattle.bigfed.specs.QueryText.{Reads}
+
+-- the whole document is committed as one change
+abbrev pub Commits : List ℕ → Origin → History → Outcome → History → Type 0
+Commits bytes origin before outcome after =
+    (statements : List Statement) × IsDocument bytes statements × (outcome ≡ Loaded (length before + 1))
+    × (after ≡ before ++ record { change = record { kind = Add; statements = statements }; origin = origin } ∷ [])
+
+-- a document with a bad line is refused whole
+abbrev pub IsRefused : List ℕ → History → Outcome → History → Type 0
+IsRefused bytes before outcome after = (line : ℕ) × IsBadLine bytes line × (outcome ≡ NotBuilt line) × (after ≡ before)
+
+abbrev pub LoadStep : Doc → Origin → History → Outcome → History → Type 0
+LoadStep Missing origin before outcome after = (outcome ≡ NoDocument) × (after ≡ before)
+LoadStep TooLarge origin before outcome after = (outcome ≡ DocumentTooLarge) × (after ≡ before)
+LoadStep (Bytes bytes) origin before outcome after = Commits bytes origin before outcome after ⊎ IsRefused bytes before outcome after
+
+abbrev pub column_names : Query → List (List ℕ)
+column_names query = map (λ column. unwrap_or (slice_get query.names column) []) query.columns
+
+-- the solutions over the triples left by all changes so far
+abbrev pub IsAnswer : List ℕ → History → Outcome → Type 0
+IsAnswer text history outcome =
+    (query : Query) × Reads text query × (rows : List Solution) × Solutions (graph_at history (length history)) query rows
+    × (((length rows ≤ 1000000) × (outcome ≡ Answered (length history) (column_names query) rows))
+    ⊎ ((1000000 < length rows) × (outcome ≡ TooMany (length history))))
+
+abbrev pub QueryStep : List ℕ → History → Outcome → Type 0
+QueryStep text history outcome =
+    ((65536 < length text) × (outcome ≡ DocumentTooLarge))
+    ⊎ ((length text ≤ 65536) × (IsAnswer text history outcome ⊎ (((query : Query) → Reads text query → ⊥) × (outcome ≡ QueryNotBuilt))))
+
+-- what a command may do to the history, and what its outcome then is
+abbrev pub Step : (List ℕ → Doc) → Origin → Command → History → Outcome → History → Type 0
+Step docs origin (Load name) before outcome after = LoadStep (docs name) origin before outcome after
+Step docs origin (Ask text) before outcome after = QueryStep text before outcome × (after ≡ before)
+
+-- the commands, one after another, the first of them at this place in its session
+abbrev pub Runs : (List ℕ → Doc) → ℕ → List Line → History → List Outcome → History → Type 0
+Runs docs place [] before [] after = after ≡ before
+Runs docs place [] before (outcome ∷ outcomes) after = ⊥
+Runs docs place (line ∷ lines) before [] after = ⊥
+Runs docs place (line ∷ lines) before (outcome ∷ outcomes) after =
+    (between : History) × Step docs (record { session = line.session; command = place }) line.command before outcome between
+    × Runs docs (place + 1) lines between outcomes after
+
+-- The report tells this history: it begins empty, each command has one outcome by the documents and the commands
+-- before it, and each change stands once, with the command that it came from.
+pub record Legal (docs : List ℕ → Doc) (work : Work) (report : RunReport) (history : History) : Type 0 where
+  pub opened : report.opened ≡ 0
+  pub outcomes : List Outcome
+  pub of_session : report.outcomes ≡ outcomes ∷ []
+  pub runs : Runs docs 1 work.lines [] outcomes history
+  pub origins : report.origins ≡ map (λ committed. committed.origin) history

@@ -1,0 +1,124 @@
+-- What the program answers, prints and ends with.
+use Rattle.std.specs.Prelude.{◌≡◌, ℕ, ◌+◌, ◌-◌, ◌<◌, ◌^◌, length, Bool, true, ◌&&◌, false, List, [], ◌∷◌, ◌++◌, Option, Some, None, if◌then◌else◌, codes, ◌⊎◌}
+use Rattle.std.specs.List.{list_all}
+use Rattle.std.specs.Fmt.{decimal}
+use Rattle.work_text.specs.declared.docs.Doc.{Doc}
+use Rattle.work_text.specs.declared.docs.Doc.TheVariants.{Bytes, Missing, TooLarge}
+use Rattle.work_text.specs.declared.report.Outcome.{Outcome}
+use Rattle.work_text.specs.declared.report.Outcome.TheVariants.{Loaded, Answered, NoDocument, DocumentTooLarge, NotBuilt, QueryNotBuilt, TooMany}
+use Rattle.work_text.specs.declared.report.RunReport.{RunReport}
+use Rattle.work_text.specs.declared.work.Command.TheVariants.{Load, Query}
+use Rattle.work_text.specs.declared.work.Line.{Line}
+use Rattle.work_text.specs.declared.work.Work.{Work}
+use Rattle.work_text.specs.History.{History}
+use Rattle.work_text.specs.Outside.{HasRisen, IsDocOf, IsTaken}
+use Rattle.work_text.specs.Report.{ended, report_text}
+use Rattle.work_text.specs.Work.{IsWork, IsBadLine}
+use Rattle.bigfed.specs.declared.answer.Answer.{Answer}
+use Rattle.bigfed.specs.declared.answer.Answer.TheVariants.{Usage, NoWork, WorkTooLarge, BadWork, ShelfFault, Ran}
+use Rattle.bigfed.specs.Legal.{Legal}
+
+abbrev pub is_done : Outcome → Bool
+is_done (Loaded time) = true
+is_done (Answered time columns rows) = true
+is_done NoDocument = false
+is_done DocumentTooLarge = false
+is_done (NotBuilt line) = false
+is_done QueryNotBuilt = false
+is_done (TooMany time) = false
+
+abbrev pub session_done : List Outcome → Bool
+session_done outcomes = list_all is_done outcomes
+
+-- every command of every session had its Ok
+abbrev pub all_done : List (List Outcome) → Bool
+all_done outcomes = list_all session_done outcomes
+
+abbrev pub answer_text : Answer → List ℕ
+answer_text Usage = ended (codes "usage: bigfed replay WORK")
+answer_text NoWork = ended (codes "no work")
+answer_text WorkTooLarge = ended (codes "work too large")
+answer_text (BadWork line) = ended (codes "bad work line " ++ decimal line)
+answer_text (ShelfFault count) = ended (codes "shelf fault " ++ decimal count)
+answer_text (Ran work report) = report_text report work
+
+-- 0 where every command had its Ok, 1 where some command was refused, 2 where nothing was run, 3 after a fault
+abbrev pub answer_status : Answer → ℕ
+answer_status Usage = 2
+answer_status NoWork = 2
+answer_status WorkTooLarge = 2
+answer_status (BadWork line) = 2
+answer_status (ShelfFault count) = 3
+answer_status (Ran work report) = if all_done report.outcomes then 0 else 1
+
+-- what a report's text needs: its times are numbers of 64 bits
+abbrev pub IsPrintable : Answer → Type 0
+IsPrintable Usage = Unit {0}
+IsPrintable NoWork = Unit {0}
+IsPrintable WorkTooLarge = Unit {0}
+IsPrintable (BadWork line) = Unit {0}
+IsPrintable (ShelfFault count) = Unit {0}
+IsPrintable (Ran work report) = report.opened + length report.origins < 2 ^ 64 - 1
+
+-- the one form of words
+abbrev pub replay_of : List ℕ → List (List ℕ)
+replay_of name = codes "replay" ∷ name ∷ []
+
+-- some line loads the document of this name
+abbrev pub IsNamed : List ℕ → List Line → Type 0
+IsNamed name [] = ⊥
+IsNamed name (line ∷ lines) = (line.command ≡ Load name) ⊎ IsNamed name lines
+
+abbrev pub Documents : Type 0
+Documents = Option (List (List ℕ × List ℕ))
+
+-- the report of a run is legal for its history, over the documents that the shelf has
+pub record Reports (told : Documents) (bytes : List ℕ) (work : Work) (report : RunReport) : Type 0 where
+  pub work_is : IsWork bytes work
+  pub docs : List ℕ → Doc
+  pub docs_are : (name : List ℕ) → IsNamed name work.lines → IsDocOf told 33554432 name (docs name)
+  pub history : History
+  pub legal : Legal docs work report history
+
+-- The answer has its cause in the words, in what the shelf tells, and in its count of faults before and after the call.
+abbrev pub HasCause : List (List ℕ) → Documents → ℕ → ℕ → Answer → Type 0
+HasCause words told before after Usage = (name : List ℕ) → words ≡ replay_of name → ⊥
+HasCause words told before after NoWork = (name : List ℕ) × (words ≡ replay_of name) × IsDocOf told 1048576 name Missing
+HasCause words told before after WorkTooLarge = (name : List ℕ) × (words ≡ replay_of name) × IsDocOf told 1048576 name TooLarge
+HasCause words told before after (BadWork line) =
+    (name bytes : List ℕ) × (words ≡ replay_of name) × IsDocOf told 1048576 name (Bytes bytes) × IsBadLine bytes line
+HasCause words told before after (ShelfFault count) =
+    (name : List ℕ) × (words ≡ replay_of name) × HasRisen before after × (count ≡ after)
+HasCause words told before after (Ran work report) =
+    (name bytes : List ℕ) × (words ≡ replay_of name) × IsDocOf told 1048576 name (Bytes bytes) × Reports told bytes work report
+
+-- The sink took the whole text and the status is the answer's, or it took a front of the text, its count rose, and the status is 3.
+abbrev pub IsPrinted : List ℕ → ℕ → Option (List ℕ) → Option (List ℕ) → ℕ → ℕ → ℕ → Type 0
+IsPrinted text status_of_answer old new before after status =
+    (IsTaken old new text × (status ≡ status_of_answer))
+    ⊎ ((front rest : List ℕ) × (text ≡ front ++ rest) × IsTaken old new front × HasRisen before after × (status ≡ 3))
+
+-- what is there before and after a call of the program: what the shelf tells and its faults, what the sink took and its faults
+pub record Outside : Type 0 where
+  pub told : Documents
+  pub shelf_faults_before : ℕ
+  pub shelf_faults : ℕ
+  pub taken_before : Option (List ℕ)
+  pub taken : Option (List ℕ)
+  pub sink_faults_before : ℕ
+  pub sink_faults : ℕ
+
+-- an answer with its cause was printed
+pub record Answers (words : List (List ℕ)) (outside : Outside) (status : ℕ) : Type 0 where
+  pub answer : Answer
+  pub cause : HasCause words outside.told outside.shelf_faults_before outside.shelf_faults answer
+  pub printed : IsPrinted (answer_text answer) (answer_status answer) outside.taken_before outside.taken outside.sink_faults_before outside.sink_faults status
+
+-- memory ran out, and nothing was printed
+pub record IsOutOfMemory (outside : Outside) (status : ℕ) : Type 0 where
+  pub status_is : status ≡ 4
+  pub nothing : IsTaken outside.taken_before outside.taken []
+
+-- what one call of the program does
+abbrev pub Serves : List (List ℕ) → Outside → ℕ → Type 0
+Serves words outside status = Answers words outside status ⊎ IsOutOfMemory outside status

@@ -1,0 +1,180 @@
+//! Reading whole documents from a shelf.
+ghost use Rattle.std.specs.Prelude.{◌≡◌, ℕ, ◌≤◌, ◌<◌, ◌^◌, Option, List as Items, IfOk, OnOk, IsErrOf, IsTrue, false, vec_len};
+ghost use Rattle.bigfed.specs.Reading.{IsPartly, GoesOn};
+ghost use Rattle.work_text.specs.Outside.{HasRisen, IsDocOf, IsWithin};
+ghost use Rattle.bigfed.specs.Documents.{docs_of, Holds, AreDocsOf};
+ghost use Rattle.bigfed.specs.Program.{IsNamed};
+ghost use Rattle.bigfed.specs.declared.shelf.ShelfFault.TheVariants.{NoMemory, Failed as Fails};
+
+use std::alloc::{AllocError, AllocFailed, Global};
+use std::collections::BTreeMap;
+use term_core::{List, Text, Want};
+use work_text::{Command, Doc, Failed, Line, Shelf};
+
+/// How many bytes a document may have.
+pub const MOST_DOCUMENT_BYTES: usize = 33_554_432;
+
+/// How many bytes are read at once.
+const CHUNK: usize = 65_536;
+
+/// The documents that a work names.
+pub type Docs = BTreeMap<Text, Doc>;
+
+/// Why documents could not be read.
+#[derive(Clone, Copy, Debug, PartialEq, Eq)]
+pub enum ShelfFault {
+    NoMemory,
+    Failed,
+}
+
+impl From<AllocError> for ShelfFault {
+    ghost from_gives = { λ _ e. e ≡ NoMemory };
+
+    fn from(_e: AllocError) -> ShelfFault {
+        ShelfFault::NoMemory
+    }
+}
+
+impl<T: Drop> From<AllocFailed<T>> for ShelfFault {
+    ghost from_gives = { λ _ e. e ≡ NoMemory };
+
+    fn from(_e: AllocFailed<T>) -> ShelfFault {
+        ShelfFault::NoMemory
+    }
+}
+
+impl From<Want> for ShelfFault {
+    ghost from_gives = { λ _ e. e ≡ NoMemory };
+
+    fn from(_e: Want) -> ShelfFault {
+        ShelfFault::NoMemory
+    }
+}
+
+impl From<Failed> for ShelfFault {
+    ghost from_gives = { λ _ e. e ≡ Fails };
+
+    fn from(_e: Failed) -> ShelfFault {
+        ShelfFault::Failed
+    }
+}
+
+/// Reads the document of a name, up to `most` bytes.
+pub fn read_whole<S: Shelf>(
+    alloc: Global,
+    shelf: &mut S,
+    name: &Text,
+    most: usize,
+) -> Result<Doc, ShelfFault>
+    requires { most < 2 ^ 62 }
+    ensures found { IfOk result (IsDocOf (S.documents shelf.old) most name.now) }
+    ensures same { S.documents shelf.new ≡ S.documents shelf.old }
+    ensures later { S.fault_count shelf.old ≤ S.fault_count shelf.new }
+    ensures fault { IsErrOf result ShelfFault.Failed → HasRisen (S.fault_count shelf.old) (S.fault_count shelf.new) }
+{
+    if !shelf.fetch(name)? {
+        return Ok(Doc::Missing);
+    }
+    let mut buffer = chunk(alloc)?;
+    let mut bytes = Vec::new(alloc);
+    'chunks: while bytes.len() <= most {
+        let more = read_chunk(shelf, &mut buffer, &mut bytes)?;
+        if !more {
+            return Ok(Doc::Bytes(List::of(bytes)));
+        }
+    }
+    Ok(Doc::TooLarge)
+}
+
+/// Room for a chunk.
+fn chunk(alloc: Global) -> Result<Vec<u8>, Want>
+    ensures { IfOk result (λ buffer. 0 < vec_len buffer) }
+{
+    let mut buffer = Vec::new(alloc);
+    buffer.resize(CHUNK, 0)?;
+    Ok(buffer)
+}
+
+/// Reads a chunk of the document behind the bytes that were read before, and answers whether it may go on.
+fn read_chunk<S: Shelf>(
+    shelf: &mut S,
+    buffer: &mut Vec<u8>,
+    bytes: &mut Vec<u8>,
+) -> Result<bool, ShelfFault>
+    requires { 0 < vec_len buffer.old }
+    ensures read { (told : Option (Items (Items ℕ × Items ℕ))) → (name : Items ℕ) →
+        IsPartly told name bytes.old.items (S.left shelf.old) →
+        IfOk result (λ more. GoesOn more told name bytes.new.items (S.left shelf.new)) }
+    ensures longer { IfOk result (λ more. IsTrue more → vec_len bytes.old < vec_len bytes.new) }
+    ensures stays { IfOk result (λ more. more ≡ false → bytes.new.items ≡ bytes.old.items) }
+    ensures room { 0 < vec_len buffer.new }
+    ensures same { S.documents shelf.new ≡ S.documents shelf.old }
+    ensures later { S.fault_count shelf.old ≤ S.fault_count shelf.new }
+    ensures fault { IsErrOf result ShelfFault.Failed → HasRisen (S.fault_count shelf.old) (S.fault_count shelf.new) }
+{
+    let n = shelf.read(buffer.as_mut_slice())?;
+    if n == 0 {
+        return Ok(false);
+    }
+    let (read, _) = buffer.split_at(n);
+    bytes.extend_from_slice(read)?;
+    Ok(true)
+}
+
+/// Reads each document that a line loads, once, by first naming.
+pub fn gather<S: Shelf>(alloc: Global, shelf: &mut S, lines: &[Line]) -> Result<Docs, ShelfFault>
+    ensures found { IfOk result (λ docs. (name : List ℕ) → IsNamed name lines.now →
+        IsDocOf (S.documents shelf.old) 33554432 name (docs_of docs name)) }
+    ensures within { IfOk result (λ docs. (name : List ℕ) → IsWithin 33554432 (docs_of docs name)) }
+    ensures same { S.documents shelf.new ≡ S.documents shelf.old }
+    ensures later { S.fault_count shelf.old ≤ S.fault_count shelf.new }
+    ensures fault { IsErrOf result ShelfFault.Failed → HasRisen (S.fault_count shelf.old) (S.fault_count shelf.new) }
+{
+    let mut docs = BTreeMap::new(alloc);
+    for line in lines {
+        add_line(alloc, shelf, &mut docs, line)?;
+    }
+    Ok(docs)
+}
+
+/// Reads the document that a line loads, if it loads one.
+fn add_line<S: Shelf>(
+    alloc: Global,
+    shelf: &mut S,
+    docs: &mut Docs,
+    line: &Line,
+) -> Result<(), ShelfFault>
+    ensures here { OnOk result ((name : Items ℕ) → line.now.command ≡ Command.Load name → Holds docs.new name) }
+    ensures keeps { OnOk result ((other : Items ℕ) → Holds docs.old other → Holds docs.new other) }
+    ensures read { AreDocsOf (S.documents shelf.old) docs.old → OnOk result (AreDocsOf (S.documents shelf.old) docs.new) }
+    ensures same { S.documents shelf.new ≡ S.documents shelf.old }
+    ensures later { S.fault_count shelf.old ≤ S.fault_count shelf.new }
+    ensures fault { IsErrOf result ShelfFault.Failed → HasRisen (S.fault_count shelf.old) (S.fault_count shelf.new) }
+{
+    match &line.command {
+        Command::Load(name) => add(alloc, shelf, docs, name),
+        Command::Query(_) => Ok(()),
+    }
+}
+
+/// Reads the document of this name unless it was read before.
+fn add<S: Shelf>(
+    alloc: Global,
+    shelf: &mut S,
+    docs: &mut Docs,
+    name: &Text,
+) -> Result<(), ShelfFault>
+    ensures here { OnOk result (Holds docs.new name.now) }
+    ensures keeps { OnOk result ((other : Items ℕ) → Holds docs.old other → Holds docs.new other) }
+    ensures read { AreDocsOf (S.documents shelf.old) docs.old → OnOk result (AreDocsOf (S.documents shelf.old) docs.new) }
+    ensures same { S.documents shelf.new ≡ S.documents shelf.old }
+    ensures later { S.fault_count shelf.old ≤ S.fault_count shelf.new }
+    ensures fault { IsErrOf result ShelfFault.Failed → HasRisen (S.fault_count shelf.old) (S.fault_count shelf.new) }
+{
+    if docs.contains_key(name) {
+        return Ok(());
+    }
+    let doc = read_whole(alloc, shelf, name, MOST_DOCUMENT_BYTES)?;
+    docs.insert(name.copy(alloc)?, doc)?;
+    Ok(())
+}

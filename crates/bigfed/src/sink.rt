@@ -1,0 +1,22 @@
+//! Printing whole texts to a sink.
+ghost use Rattle.std.specs.Prelude.{◌≡◌, ℕ, ◌≤◌, ◌++◌, List, OnOk, OnErr};
+ghost use Rattle.work_text.specs.Outside.{HasRisen, IsTaken};
+
+use work_text::{Failed, Sink};
+
+/// Writes all of the text, unless the sink fails.
+pub fn write_whole<K: Sink>(sink: &mut K, text: &[u8]) -> Result<(), Failed>
+    ensures ok { OnOk result (IsTaken (K.taken sink.old) (K.taken sink.new) text.now) }
+    ensures err { OnErr result ((front rest : List ℕ) × (text.now ≡ front ++ rest)
+        × IsTaken (K.taken sink.old) (K.taken sink.new) front) }
+    ensures later { K.fault_count sink.old ≤ K.fault_count sink.new }
+    ensures fault { OnErr result (HasRisen (K.fault_count sink.old) (K.fault_count sink.new)) }
+{
+    let mut rest = text;
+    'pieces: while !rest.is_empty() {
+        let n = sink.write(rest)?;
+        let (_, behind) = rest.split_at(n);
+        rest = behind;
+    }
+    Ok(())
+}
