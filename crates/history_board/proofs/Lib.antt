@@ -1,0 +1,14 @@
+pub mod Prefixes
+pub mod Places
+pub mod Members
+pub mod Bearings
+pub mod Seats
+pub mod Following
+pub mod Pinning
+pub mod SessionSteps
+pub mod Committing
+pub mod Keeping
+pub mod Handing
+pub mod Asking
+pub mod Meeting
+pub mod Own

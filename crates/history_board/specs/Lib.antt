@@ -1,0 +1,6 @@
+pub mod Bearings
+pub mod Pins
+pub mod Views
+pub mod Tokens
+pub mod HistoryRule
+pub mod Steps
