@@ -1,0 +1,48 @@
+use super::*;
+use std::test::Fail;
+
+#[test]
+fn keys_keep_their_bytes_and_their_order(rt: HostRuntime) -> Result<(), Fail> {
+    let key = Key::of(rt.alloc(), b"ab")?;
+    assert_eq!(rt; key.bytes(), b"ab".as_slice());
+    assert!(rt; key == key.copy(rt.alloc())?);
+    assert!(rt; key == Key::from_bytes(vec![in rt.alloc(); 97u8, 98]?));
+    assert!(rt; key < Key::of(rt.alloc(), b"b")?);
+    assert!(rt; Key::of(rt.alloc(), b"a")? < key);
+    Ok(())
+}
+
+#[test]
+fn the_end_of_a_prefix_is_its_last_byte_below_ff_one_higher(rt: HostRuntime) -> Result<(), Fail> {
+    let span = Span::of_prefix(rt.alloc(), b"\x61\xff")?;
+    assert_eq!(rt; span.left.bytes(), b"\x61\xff".as_slice());
+    assert!(rt; span.right == Some(Key::of(rt.alloc(), b"\x62")?));
+    assert!(rt; span.contains(b"\x61\xff\x00"));
+    assert!(rt; !span.contains(b"\x62"));
+    assert!(rt; Span::of_prefix(rt.alloc(), b"\xff")?.right.is_none());
+    Ok(())
+}
+
+#[test]
+fn spans_meet_where_both_have_keys(rt: HostRuntime) -> Result<(), Fail> {
+    let one = Span::of_prefix(rt.alloc(), b"a")?;
+    let inner = Span::of_prefix(rt.alloc(), b"ab")?;
+    let next = Span::of_prefix(rt.alloc(), b"b")?;
+    assert!(rt; one.meet(rt.alloc(), &next)?.is_none());
+    let Some(both) = one.meet(rt.alloc(), &inner)? else {
+        panic!(rt; "they meet");
+    };
+    assert!(rt; both.contains(b"ab"));
+    assert!(rt; !both.contains(b"ac"));
+    Ok(())
+}
+
+#[test]
+fn numbers_are_eight_bytes(rt: HostRuntime) -> Result<(), Fail> {
+    let mut out = vec![in rt.alloc(); 7u8]?;
+    put_u64(258, &mut out)?;
+    assert_eq!(rt; out.as_slice(), b"\x07\0\0\0\0\0\0\x01\x02".as_slice());
+    assert_eq!(rt; get_u64(&out, 1), Some(258));
+    assert_eq!(rt; get_u64(&out, 2), None);
+    Ok(())
+}
