@@ -1,5 +1,5 @@
 -- The characters that the parts of a term are made of, by their code points.
-use Rattle.std.specs.Prelude.{ℕ, Bool, ◌&&◌, ◌||◌, not, List, [], ◌∷◌, nat_le, ◌==◌, codes}
+use Rattle.std.specs.Prelude.{ℕ, Bool, ◌&&◌, ◌||◌, not, nat_le, ◌==◌, codes}
 use Rattle.std.specs.List.{list_any}
 
 -- the code point is in the range, both ends in

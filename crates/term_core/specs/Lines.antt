@@ -1,5 +1,5 @@
 -- The lines of a text, without their ends. The last line may have no end.
-use Rattle.std.specs.Prelude.{ℕ, Bool, true, false, ◌&&◌, ◌||◌, not, List, [], ◌∷◌, ◌==◌, if◌then◌else◌}
+use Rattle.std.specs.Prelude.{ℕ, Bool, false, ◌&&◌, ◌||◌, not, List, [], ◌∷◌, ◌==◌, if◌then◌else◌}
 use Rattle.term_core.specs.declared.lines.LineEnd.{LineEnd}
 use Rattle.term_core.specs.declared.lines.LineEnd.TheVariants.{Any, LineFeed}
 

@@ -1,4 +1,4 @@
-use Rattle.std.proofs.Common.{arith, ◌≡◌, ◌≢◌, ◌∷◌, ◌<◌, ◌+◌, ◌≤◌, ℕ, List, [], length, take, drop, get_or, ap, refl, sym, ◌∙◌, Bool, false, ◌==◌}
+use Rattle.std.proofs.Common.{arith, ◌≡◌, ◌≢◌, ◌∷◌, ◌<◌, ◌+◌, ◌≤◌, ℕ, List, [], length, take, drop, get_or, ap, sym, ◌∙◌, Bool, false, ◌==◌}
 use Rattle.std.proofs.lemmas.List.{take_more, drop_more, take_all, drop_all}
 use Rattle.term_core.specs.declared.lines.LineEnd.{LineEnd}
 use Rattle.term_core.specs.Lines.{lines_of, onto_first}
