@@ -1,0 +1,9 @@
+pub mod Adding
+pub mod Filters
+pub mod FirstKey
+pub mod Found
+pub mod Gathering
+pub mod Lists
+pub mod Order
+pub mod Places
+pub mod Searching

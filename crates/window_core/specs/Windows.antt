@@ -1,0 +1,45 @@
+-- What the calls of a window answer.
+use Rattle.std.specs.Prelude.{◌≡◌, ℕ, ◌≤◌, List, Option, Some, None, Result, Ok, Err, OnErr}
+use Rattle.std.specs.List.{AllByRecursion}
+use Rattle.fed_bytes.specs.declared.span.Span.{Span}
+use Rattle.fed_bytes.specs.Keys.{IsBefore, IsUpTo}
+use Rattle.disk_core.specs.Disk.{HasRisen}
+use Rattle.window_core.specs.declared.rows.Row.{Row}
+use Rattle.window_core.specs.declared.rows.Chunk.{Chunk}
+use Rattle.window_core.specs.declared.fault.WindowFault.{WindowFault}
+use Rattle.window_core.specs.declared.fault.WindowFault.TheVariants.{NoMemory, Failed, Damaged, BadRows}
+use Rattle.window_core.specs.Rows.{StandInOrder, AreWithin, IsWithin, IsAt}
+
+-- the rows of a window stand in order, and are within its span and its times
+pub record IsWindow (span : Span) (from upto : ℕ) (rows : List Row) : Type 0 where
+  pub in_order : StandInOrder rows
+  pub within : AreWithin span from upto rows
+  pub times : from ≤ upto
+
+-- the count of faults doesn't fall, and a fault of the device is answered only where it has risen
+pub record IsCountedBy {T : Type 0} (before now : ℕ) (result : Result T WindowFault) : Type 0 where
+  pub later : before ≤ now
+  pub cause : result ≡ Err Failed → HasRisen before now
+
+abbrev pub IsNoDamage : WindowFault → Type 0
+IsNoDamage NoMemory = Unit {0}
+IsNoDamage Failed = Unit {0}
+IsNoDamage (Damaged block kept found) = ⊥
+IsNoDamage (BadRows block) = ⊥
+
+-- what an answered row is, whatever a device gave: one of the key, at or before the time, within the window
+abbrev pub IsFound : Span → ℕ → ℕ → List ℕ → ℕ → Option Row → Type 0
+IsFound span from upto key time None = Unit {0}
+IsFound span from upto key time (Some row) = IsAt key time row × IsWithin span from upto row
+
+-- the next key stands behind the key that was asked for
+abbrev pub IsOnward : List ℕ → Option (List ℕ) → Type 0
+IsOnward key None = Unit {0}
+IsOnward key (Some next) = IsBefore key next
+
+-- what an answered chunk is, whatever a device gave: rows in order from the key on, within the window, and a later key
+pub record IsPart (span : Span) (from upto : ℕ) (key : List ℕ) (chunk : Chunk) : Type 0 where
+  pub in_order : StandInOrder chunk.rows
+  pub within : AreWithin span from upto chunk.rows
+  pub from_key : AllByRecursion (λ row. IsUpTo key row.key) chunk.rows
+  pub onward : IsOnward key chunk.next

@@ -1,0 +1,30 @@
+//! A caller of windows of any kind, over any device.
+ghost use Rattle.std.specs.Prelude.{◌≡◌, IfOk, IfErr};
+ghost use Rattle.window_core.specs.Windows.{IsCountedBy, IsNoDamage};
+ghost use Rattle.window_core.specs.Caller.{IsFirstAt};
+
+use crate::fault::WindowFault;
+use crate::rows::Row;
+use crate::window::Window;
+use disk_core::Disk;
+use std::alloc::Global;
+
+/// The newest row, at or before a time, of the first key from a key on.
+pub fn first_at<W: Window, D: Disk>(
+    window: &W,
+    alloc: Global,
+    disk: &mut D,
+    key: &[u8],
+    time: u64,
+) -> Result<Option<Row>, WindowFault>
+    ensures first { W.stands window.now (D.files disk.old) → IfOk result (IsFirstAt (W.rows window.now) key.now time) }
+    ensures whole { W.stands window.now (D.files disk.old) → IfErr result IsNoDamage }
+    ensures same { D.files disk.new ≡ D.files disk.old }
+    ensures counted { IsCountedBy (D.fault_count disk.old) (D.fault_count disk.new) result }
+{
+    let chunk = window.chunk(alloc, disk, key, 1)?;
+    let Some(first) = chunk.rows.items().first() else {
+        return Ok(None);
+    };
+    window.last(alloc, disk, first.key.bytes(), time)
+}

@@ -1,0 +1,73 @@
+//! What all windows answer, whether they are in memory or in a file.
+ghost use Rattle.std.specs.Prelude.{◌≡◌, ℕ, ◌≤◌, List, Option, IfOk, IfErr};
+ghost use Rattle.fed_bytes.specs.declared.span.Span.{Span};
+ghost use Rattle.window_core.specs.declared.rows.Row.{Row};
+ghost use Rattle.window_core.specs.Rows.{IsLast, IsChunk};
+ghost use Rattle.window_core.specs.Windows.{IsWindow, IsCountedBy, IsNoDamage, IsFound, IsPart};
+
+use crate::fault::WindowFault;
+use crate::rows::{Chunk, Row};
+use disk_core::Disk;
+use fed_bytes::Span;
+use std::alloc::Global;
+
+/// The rows of one index whose keys are in a span and whose times are above `from` and at most `upto`.
+pub trait Window {
+    ghost rows: { Self → List Row };
+
+    /// What the files of a device must be for the rows to stand on it. A window in memory asks nothing of them.
+    ghost stands: { Self → Option (ℕ → List ℕ) → Type 0 };
+
+    ghost span: { Self → Span };
+
+    ghost from: { Self → ℕ };
+
+    ghost upto: { Self → ℕ };
+
+    ghost floor: { Self → ℕ };
+
+    fn span(&self) -> &Span
+        ensures { result.now ≡ span self.now };
+
+    fn from(&self) -> u64
+        ensures { result ≡ from self.now };
+
+    fn upto(&self) -> u64
+        ensures { result ≡ upto self.now };
+
+    /// The time below which rows may have been pruned.
+    fn floor(&self) -> u64
+        ensures { result ≡ floor self.now };
+
+    /// The newest row of the key at or before the time.
+    fn last<D: Disk>(
+        &self,
+        alloc: Global,
+        disk: &mut D,
+        key: &[u8],
+        t: u64,
+    ) -> Result<Option<Row>, WindowFault>
+        ensures last { stands self.now (D.files disk.old) → IfOk result (IsLast (rows self.now) key.now t) }
+        ensures found { IfOk result (IsFound (span self.now) (from self.now) (upto self.now) key.now t) }
+        ensures whole { stands self.now (D.files disk.old) → IfErr result IsNoDamage }
+        ensures same { D.files disk.new ≡ D.files disk.old }
+        ensures counted { IsCountedBy (D.fault_count disk.old) (D.fault_count disk.new) result };
+
+    /// All rows of the first `most` keys from a key on, and the key behind them.
+    fn chunk<D: Disk>(
+        &self,
+        alloc: Global,
+        disk: &mut D,
+        key: &[u8],
+        most: u32,
+    ) -> Result<Chunk, WindowFault>
+        requires { 1 ≤ most }
+        ensures chunk { stands self.now (D.files disk.old) → IfOk result (IsChunk (rows self.now) key.now most) }
+        ensures part { IfOk result (IsPart (span self.now) (from self.now) (upto self.now) key.now) }
+        ensures whole { stands self.now (D.files disk.old) → IfErr result IsNoDamage }
+        ensures same { D.files disk.new ≡ D.files disk.old }
+        ensures counted { IsCountedBy (D.fault_count disk.old) (D.fault_count disk.new) result };
+
+    /// What is true of each window.
+    ghost holds: { (window : Self) → IsWindow (span window) (from window) (upto window) (rows window) };
+}
