@@ -7,12 +7,12 @@ use Rattle.term_core.specs.declared.term.Term.TheVariants.{Iri, Literal, Tagged,
 use Rattle.term_core.specs.declared.statement.Statement.{Statement}
 use Rattle.term_core.specs.Lists.{Has}
 use Rattle.nt_text.specs.Document.{IsToken, IsTriple, Brings, AreLinesOf}
-use Rattle.work_text.specs.declared.history.Kind.{Kind}
-use Rattle.work_text.specs.declared.history.Kind.TheVariants.{Add, Remove}
-use Rattle.work_text.specs.declared.history.Change.{Change}
-use Rattle.work_text.specs.declared.history.Committed.{Committed}
-use Rattle.work_text.specs.declared.history.Origin.{Origin}
-use Rattle.work_text.specs.History.{History, bound_term, bound_at, applied, after, graph_at}
+use Rattle.change_model.specs.declared.history.Kind.{Kind}
+use Rattle.change_model.specs.declared.history.Kind.TheVariants.{Add, Remove}
+use Rattle.change_model.specs.declared.history.Change.{Change}
+use Rattle.change_model.specs.declared.history.Committed.{Committed}
+use Rattle.change_model.specs.declared.history.Origin.{Origin}
+use Rattle.change_model.specs.History.{History, bound_term, bound_at, applied, after, graph_at}
 use Rattle.bigfed.specs.declared.store.Store.{Store}
 use Rattle.bigfed.specs.Standing.{StandsFor}
 

@@ -14,12 +14,12 @@ use Rattle.work_text.specs.declared.docs.Doc.{Doc}
 use Rattle.work_text.specs.declared.docs.Doc.TheVariants.{Bytes}
 use Rattle.work_text.specs.declared.work.Command.TheVariants.{Query as Ask}
 use Rattle.work_text.specs.declared.work.Line.{Line}
-use Rattle.work_text.specs.declared.history.Kind.TheVariants.{Add}
-use Rattle.work_text.specs.declared.history.Committed.{Committed}
-use Rattle.work_text.specs.declared.history.Origin.{Origin}
+use Rattle.change_model.specs.declared.history.Kind.TheVariants.{Add}
+use Rattle.change_model.specs.declared.history.Committed.{Committed}
+use Rattle.change_model.specs.declared.history.Origin.{Origin}
 use Rattle.work_text.specs.declared.report.Outcome.{Outcome}
 use Rattle.work_text.specs.declared.report.Outcome.TheVariants.{Loaded, Answered, TooMany}
-use Rattle.work_text.specs.History.{History, graph_at}
+use Rattle.change_model.specs.History.{History, graph_at}
 use Rattle.bigfed.specs.declared.store.Store.{Store}
 use Rattle.bigfed.specs.Legal.{LoadStep, QueryStep, Step, Runs, column_names}
 use Rattle.bigfed.specs.QueryText.{Reads}

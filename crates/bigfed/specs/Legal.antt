@@ -9,10 +9,10 @@ use Rattle.bgp_model.specs.declared.solution.Solution.{Solution}
 use Rattle.bgp_model.specs.Solutions.{Solutions}
 use Rattle.work_text.specs.declared.docs.Doc.{Doc}
 use Rattle.work_text.specs.declared.docs.Doc.TheVariants.{Bytes, Missing, TooLarge}
-use Rattle.work_text.specs.declared.history.Kind.TheVariants.{Add}
-use Rattle.work_text.specs.declared.history.Change.{Change}
-use Rattle.work_text.specs.declared.history.Committed.{Committed}
-use Rattle.work_text.specs.declared.history.Origin.{Origin}
+use Rattle.change_model.specs.declared.history.Kind.TheVariants.{Add}
+use Rattle.change_model.specs.declared.history.Change.{Change}
+use Rattle.change_model.specs.declared.history.Committed.{Committed}
+use Rattle.change_model.specs.declared.history.Origin.{Origin}
 use Rattle.work_text.specs.declared.report.Outcome.{Outcome}
 use Rattle.work_text.specs.declared.report.Outcome.TheVariants.{Loaded, Answered, NoDocument, DocumentTooLarge, NotBuilt, QueryNotBuilt, TooMany}
 use Rattle.work_text.specs.declared.report.RunReport.{RunReport}
@@ -20,7 +20,7 @@ use Rattle.work_text.specs.declared.work.Command.{Command}
 use Rattle.work_text.specs.declared.work.Command.TheVariants.{Load, Query as Ask}
 use Rattle.work_text.specs.declared.work.Line.{Line}
 use Rattle.work_text.specs.declared.work.Work.{Work}
-use Rattle.work_text.specs.History.{History, graph_at}
+use Rattle.change_model.specs.History.{History, graph_at}
 use Rattle.bigfed.specs.QueryText.{Reads}
 
 -- the whole document is committed as one change

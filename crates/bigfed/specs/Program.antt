@@ -10,7 +10,7 @@ use Rattle.work_text.specs.declared.report.RunReport.{RunReport}
 use Rattle.work_text.specs.declared.work.Command.TheVariants.{Load, Query}
 use Rattle.work_text.specs.declared.work.Line.{Line}
 use Rattle.work_text.specs.declared.work.Work.{Work}
-use Rattle.work_text.specs.History.{History}
+use Rattle.change_model.specs.History.{History}
 use Rattle.work_text.specs.Outside.{HasRisen, IsDocOf, IsTaken}
 use Rattle.work_text.specs.Report.{ended, report_text}
 use Rattle.work_text.specs.Work.{IsWork, IsBadLine}

@@ -2,7 +2,7 @@
 use Rattle.std.specs.Prelude.{◌≡◌, length, map, ◌↔◌}
 use Rattle.term_core.specs.declared.statement.Statement.{Statement}
 use Rattle.term_core.specs.Lists.{Has}
-use Rattle.work_text.specs.History.{History, graph_at}
+use Rattle.change_model.specs.History.{History, graph_at}
 use Rattle.bigfed.specs.declared.store.Store.{Store}
 
 -- the store holds the triples that the history left, and where each of its changes came from

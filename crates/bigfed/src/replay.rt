@@ -1,6 +1,6 @@
 //! Running a work over the documents that it names.
 ghost use Rattle.std.specs.Prelude.{◌≤◌, ◌+◌, ℕ, List, length, IfOk, OnOk};
-ghost use Rattle.work_text.specs.History.{History};
+ghost use Rattle.change_model.specs.History.{History};
 ghost use Rattle.work_text.specs.Outside.{IsWithin};
 ghost use Rattle.bigfed.specs.Documents.{docs_of};
 ghost use Rattle.bigfed.specs.Legal.{Legal, Step};
@@ -8,9 +8,10 @@ ghost use Rattle.bigfed.specs.Standing.{StandsFor};
 
 use crate::shelf::Docs;
 use crate::store::Store;
+use change_model::Origin;
 use std::alloc::Global;
 use term_core::{List, Want};
-use work_text::{Command, Doc, Line, Origin, Outcome, RunReport, Work};
+use work_text::{Command, Doc, Line, Outcome, RunReport, Work};
 
 /// Runs the commands of a work in order, from the empty history on.
 pub fn replay(alloc: Global, work: &Work, docs: &Docs) -> Result<RunReport, Want>

@@ -1,15 +1,16 @@
 //! The history of a run, kept as the triples that its changes put in and where each change came from.
 ghost use Rattle.std.specs.Prelude.{◌≡◌, ◌≤◌, ◌+◌, ◌∷◌, ◌++◌, [], length, IfOk, OnOk, slice_get, unwrap_or};
-ghost use Rattle.work_text.specs.History.{History};
+ghost use Rattle.change_model.specs.History.{History};
 ghost use Rattle.work_text.specs.Outside.{IsWithin};
 ghost use Rattle.bigfed.specs.Legal.{LoadStep, QueryStep, column_names};
 
 use crate::query_text::read_query;
 use bgp_model::{BgpFault, Query, Solution, solve_plainly};
+use change_model::Origin;
 use nt_text::{DocFault, read_document};
 use std::alloc::Global;
 use term_core::{List, Statement, Text, Want};
-use work_text::{Doc, Origin, Outcome};
+use work_text::{Doc, Outcome};
 
 /// A query's text may be this long.
 const MOST_QUERY_BYTES: usize = 65_536;

@@ -1,6 +1,5 @@
 pub mod Documents
 pub mod Faults
-pub mod History
 pub mod Memory
 pub mod Outside
 pub mod Plans

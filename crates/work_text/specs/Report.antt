@@ -4,7 +4,7 @@ use Rattle.std.specs.List.{flat_map}
 use Rattle.std.specs.Fmt.{decimal}
 use Rattle.bgp_model.specs.declared.solution.Solution.{Solution}
 use Rattle.bgp_model.specs.Row.{line_of}
-use Rattle.work_text.specs.declared.history.Origin.{Origin}
+use Rattle.change_model.specs.declared.history.Origin.{Origin}
 use Rattle.work_text.specs.declared.report.Outcome.{Outcome}
 use Rattle.work_text.specs.declared.report.Outcome.TheVariants.{Loaded, Answered, NoDocument, DocumentTooLarge, NotBuilt, QueryNotBuilt, TooMany}
 use Rattle.work_text.specs.declared.report.RunReport.{RunReport}

@@ -1,9 +1,8 @@
-//! Works and reports as text, the history that a report tells, and the outside that they come from and go to.
+//! Works and reports as text, and the outside that they come from and go to.
 #![tactic(auto)]
 
 mod docs;
 mod fault_plan;
-mod history;
 mod memory_shelf;
 mod memory_sink;
 mod outside;
@@ -14,7 +13,6 @@ mod work;
 mod write;
 
 pub use docs::Doc;
-pub use history::{Change, Committed, Kind, Origin};
 pub use memory_shelf::MemoryShelf;
 pub use memory_sink::MemorySink;
 pub use outside::{Failed, Shelf, Sink};

@@ -1,6 +1,6 @@
 //! Reports: what became of each command, and which changes were committed.
-use crate::history::Origin;
 use bgp_model::Solution;
+use change_model::Origin;
 use term_core::{List, Text};
 
 /// What became of a command. All but the first two are refusals, and a refused command changes nothing.

@@ -1,5 +1,6 @@
 use super::*;
 use bgp_model::Solution;
+use change_model::Origin;
 use std::alloc::Global;
 use std::process::Abort;
 use std::test::Fail;

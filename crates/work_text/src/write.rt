@@ -5,10 +5,10 @@ ghost use Rattle.std.specs.Prelude.{◌≡◌, ◌+◌, ◌-◌, ◌<◌, ◌^�
 ghost use Rattle.std.specs.List.{flat_map};
 ghost use Rattle.work_text.specs.Report.{report_text, sessions_text, session_text, commands_of, commands_text, command_text, verb, outcome_text, answer_text, header, row_text, history_text, commits_text, commit_text};
 
-use crate::history::Origin;
 use crate::report::{Outcome, RunReport};
 use crate::work::{Command, Line, Work};
 use bgp_model::{Solution, row_line};
+use change_model::Origin;
 use std::alloc::Global;
 use term_core::{List, Text, Want};
 

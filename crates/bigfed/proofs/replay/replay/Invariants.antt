@@ -1,6 +1,6 @@
 use Rattle.std.proofs.Common.{◌≡◌, ◌≤◌, ◌+◌, ◌++◌, List, [], length, drop}
 use Rattle.work_text.specs.declared.report.Outcome.{Outcome}
-use Rattle.work_text.specs.History.{History}
+use Rattle.change_model.specs.History.{History}
 use Rattle.bigfed.specs.Documents.{docs_of}
 use Rattle.bigfed.specs.Legal.{Runs}
 use Rattle.bigfed.specs.Standing.{StandsFor}

@@ -5,9 +5,9 @@ use Rattle.term_core.specs.declared.term.Term.{Term}
 use Rattle.term_core.specs.declared.term.Term.TheVariants.{Iri, Literal, Tagged, Blank}
 use Rattle.term_core.specs.declared.statement.Statement.{Statement}
 use Rattle.term_core.specs.Lists.{Has}
-use Rattle.work_text.specs.declared.history.Kind.{Kind}
-use Rattle.work_text.specs.declared.history.Kind.TheVariants.{Add, Remove}
-use Rattle.work_text.specs.declared.history.Committed.{Committed}
+use Rattle.change_model.specs.declared.history.Kind.{Kind}
+use Rattle.change_model.specs.declared.history.Kind.TheVariants.{Add, Remove}
+use Rattle.change_model.specs.declared.history.Committed.{Committed}
 
 -- a label of a change stands for a node of that change's time
 abbrev pub bound_term : ℕ → Term → Term

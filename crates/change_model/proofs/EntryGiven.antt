@@ -1,0 +1,183 @@
+-- The ids of the terms of a change, one term after the other.
+use Rattle.std.proofs.Common.{◌≡◌, ℕ, zero, suc, ◌<◌, ◌≤◌, ◌+◌, List, [], ◌∷◌, ◌++◌, map, length, take, get_or, Option, Some, None, refl, sym, ◌∙◌, ap, subst, arith}
+use Rattle.std.specs.List.{slice_get, AllZip}
+use Rattle.std.proofs.lemmas.Option.{none-some, same_Some}
+use Rattle.std.proofs.lemmas.List.{take_more, take_all, append-nil, length-take-le, map-append}
+use Rattle.std.proofs.lemmas.List.Elements.{All-from_recursion}
+use Rattle.std.proofs.lemmas.Slice.Zip.{all_zipped_more}
+use Rattle.term_core.specs.declared.term.Term.{Term}
+use Rattle.term_core.specs.declared.term.Term.TheVariants.{Iri, Literal, Tagged, Blank}
+use Rattle.term_core.specs.Term.{IsTerm}
+use Rattle.term_core.specs.Lists.{Has}
+use Rattle.change_model.specs.History.{bound_term}
+use Rattle.change_model.specs.Lexicon.{with_term, with_terms, brought}
+use Rattle.change_model.specs.declared.history.Kind.{Kind}
+use Rattle.change_model.specs.declared.history.Kind.TheVariants.{Add, Remove}
+use Rattle.change_model.specs.Numbering.{HasIdIn, IsIdIn, IsBase, BindWell, AreIdsIn, AreIdsAt, IsNumbering, known_id, known_ids}
+use Rattle.change_model.proofs.VocabularyTerms.{with_terms-append}
+use Rattle.change_model.proofs.EntryNumbering.{stands, HasIdIn-grown}
+
+zip_weaker : {A B : Type 0} (R S : A → B → Type 0) → ((x : A) (y : B) → R x y → S x y) → (xs : List A) (ys : List B) → AllZip R xs ys → AllZip S xs ys
+zip_weaker R S weaker [] [] all = tt
+zip_weaker R S weaker [] (y ∷ ys) all = all
+zip_weaker R S weaker (x ∷ xs) [] all = all
+zip_weaker R S weaker (x ∷ xs) (y ∷ ys) all = (weaker x y all.0, zip_weaker R S weaker xs ys all.1)
+
+zip_at : {A B : Type 0} (R : A → B → Type 0) (xs : List A) (ys : List B) (k : ℕ) (d : A) (e : B) → AllZip R xs ys → k < length xs → R (get_or xs k d) (get_or ys k e)
+zip_at R [] [] k d e all below = absurd (omega arith)
+zip_at R [] (y ∷ ys) k d e all below = absurd all
+zip_at R (x ∷ xs) [] k d e all below = absurd all
+zip_at R (x ∷ xs) (y ∷ ys) zero d e all below = all.0
+zip_at R (x ∷ xs) (y ∷ ys) (suc k) d e all below = zip_at R xs ys k d e all.1 (omega arith)
+
+pub zip_got : {A B : Type 0} (R : A → B → Type 0) (xs : List A) (ys : List B) (k : ℕ) (x : A) (e : B) → AllZip R xs ys → slice_get xs k ≡ Some x → R x (get_or ys k e)
+zip_got R [] [] k x e all at = absurd (none-some x at)
+zip_got R [] (y ∷ ys) k x e all at = absurd all
+zip_got R (first ∷ xs) [] k x e all at = absurd all
+zip_got {A} {B} R (first ∷ xs) (y ∷ ys) zero x e all at = subst (λ (v : A). R v y) (same_Some first x at) all.0
+zip_got R (first ∷ xs) (y ∷ ys) (suc k) x e all at = zip_got R xs ys k x e all.1 at
+
+pub place_below : {A : Type 0} (xs : List A) (k : ℕ) (y : A) → slice_get xs k ≡ Some y → k < length xs
+place_below [] k y e = absurd (none-some y e)
+place_below (x ∷ xs) zero y e = omega arith
+place_below (x ∷ xs) (suc k) y e = omega (arith, place_below xs k y e)
+
+-- the ids that are known before the labels are bound
+
+known_one : (base : List Term) (time : ℕ) → ((label : List ℕ) → Has base (Blank time label) → ⊥) → (term : Term) (id : Option ℕ)
+    → IsIdIn base term id → IsIdIn base (bound_term time term) (known_id term id)
+known_one base time earlier (Iri iri) id is = is
+known_one base time earlier (Literal form datatype) id is = is
+known_one base time earlier (Tagged form tag) id is = is
+known_one base time earlier (Blank at label) id is = λ n has. earlier label (stands base (Blank time label) n has)
+
+pub known_all : (base : List Term) (time : ℕ) → ((label : List ℕ) → Has base (Blank time label) → ⊥) → (terms : List Term) (ids : List (Option ℕ))
+    → AreIdsIn base terms ids → AreIdsAt time base terms (known_ids terms ids)
+known_all base time earlier [] [] are = tt
+known_all base time earlier [] (id ∷ ids) are = absurd are
+known_all base time earlier (term ∷ terms) [] are = absurd are
+known_all base time earlier (term ∷ terms) (id ∷ ids) are = (known_one base time earlier term id are.0, known_all base time earlier terms ids are.1)
+
+known_push : (terms : List Term) (term : Term) (ids : List (Option ℕ)) → known_ids (terms ++ (term ∷ [])) ids ≡ known_ids terms ids ++ (known_id term (get_or ids (length terms) None) ∷ [])
+known_push [] term [] = refl
+known_push [] term (id ∷ ids) = refl
+known_push (first ∷ terms) term [] = ap (λ rest. known_id first None ∷ rest) (known_push terms term [])
+known_push (first ∷ terms) term (id ∷ ids) = ap (λ rest. known_id first id ∷ rest) (known_push terms term ids)
+
+pub known_more : (terms : List Term) (ids : List (Option ℕ)) (i : ℕ) (term : Term) (old new : List (Option ℕ)) (id one : Option ℕ)
+    → i < length terms → term ≡ get_or terms i term → old ≡ known_ids (take i terms) ids → id ≡ get_or ids i None → one ≡ known_id term id → new ≡ old ++ (one ∷ [])
+    → new ≡ known_ids (take (i + 1) terms) ids
+known_more terms ids i term old new id one below is so_far at answer pushed =
+    let more : take (i + 1) terms ≡ take i terms ++ (term ∷ []) = take_more terms i term below ∙ ap (λ t. take i terms ++ (t ∷ [])) (sym is) in
+    let long : length (take i terms) ≡ i = length-take-le i terms (omega arith) in
+    let last : one ≡ known_id term (get_or ids (length (take i terms)) None) = answer ∙ ap (known_id term) at ∙ ap (λ n. known_id term (get_or ids n None)) (sym long) in
+    pushed ∙ ap (λ ks. ks ++ (one ∷ [])) so_far ∙ ap (λ o. known_ids (take i terms) ids ++ (o ∷ [])) last ∙ sym (known_push (take i terms) term ids) ∙ ap (λ ts. known_ids ts ids) (sym more)
+
+-- no term is brought yet
+pub numbering_base : (base : List Term) (number time : ℕ) (entries : List (List ℕ × ℕ)) → IsBase base number time → entries ≡ [] → IsNumbering base base number entries
+numbering_base base number time entries is none = record {
+  grown = ([], sym (append-nil base));
+  rules = is.rules;
+  count = is.count;
+  brought = λ key id. (
+    λ h. absurd (subst (λ (es : List (List ℕ × ℕ)). Has es (key, id)) none h),
+    λ b. absurd (let below = place_below base b.has.0 b.term b.has.1 in let at = b.has.2 in let new = b.new in omega arith),
+  );
+}
+
+-- an id that was given
+abbrev IsGivenIn : List Term → Term → Option ℕ → Type 0
+IsGivenIn known term (Some id) = HasIdIn known term id
+IsGivenIn known term None = ⊥
+
+given_is : (known : List Term) (term : Term) (id : Option ℕ) → IsGivenIn known term id → IsIdIn known term id
+given_is known term (Some id) given = given
+given_is known term None given = absurd given
+
+given_grown : (known : List Term) (more term : Term) (id : Option ℕ) → IsGivenIn known term id → IsGivenIn (with_term known more) term id
+given_grown known more term (Some id) given = HasIdIn-grown known more term id given
+given_grown known more term None given = given
+
+abbrev pub AreGivenAt : ℕ → List Term → List Term → List (Option ℕ) → Type 0
+AreGivenAt time known terms ids = AllZip (λ term id. IsGivenIn known (bound_term time term) id) terms ids
+
+-- the first so many terms have their ids
+pub record HaveSoFar (base : List Term) (time : ℕ) (terms : List Term) (i : ℕ) (given : List (Option ℕ)) (number : ℕ) (entries : List (List ℕ × ℕ)) : Type 0 where
+  pub ids : AreGivenAt time (with_terms base (map (bound_term time) (take i terms))) (take i terms) given
+  pub numbering : IsNumbering base (with_terms base (map (bound_term time) (take i terms))) number entries
+
+pub have_none : (base : List Term) (time : ℕ) (terms : List Term) (given : List (Option ℕ)) (number : ℕ) (entries : List (List ℕ × ℕ))
+    → IsBase base number time → given ≡ [] → entries ≡ [] → HaveSoFar base time terms 0 given number entries
+have_none base time terms given number entries is none empty = record {
+  ids = subst (AreGivenAt time base []) (sym none) tt;
+  numbering = numbering_base base number time entries is empty;
+}
+
+-- what is known of the next term
+pub next_rules : (time : ℕ) (terms : List Term) (i : ℕ) (term : Term) → BindWell time terms → i < length terms → term ≡ get_or terms i term → IsTerm (bound_term time term)
+next_rules time terms i term bind below is =
+    subst (λ (t : Term). IsTerm (bound_term time t)) (sym is) (All-from_recursion (λ t. IsTerm (bound_term time t)) terms bind i term below)
+
+pub next_id : (time : ℕ) (base terms : List Term) (ids : List (Option ℕ)) (i : ℕ) (term : Term) (id : Option ℕ) → AreIdsAt time base terms ids → i < length terms → term ≡ get_or terms i term
+    → id ≡ get_or ids i None → IsIdIn base (bound_term time term) id
+next_id time base terms ids i term id are below is at =
+    let here = zip_at (λ t o. IsIdIn base (bound_term time t) o) terms ids i term None are below in
+    subst (IsIdIn base (bound_term time term)) (sym at) (subst (λ (t : Term). IsIdIn base (bound_term time t) (get_or ids i None)) (sym is) here)
+
+pub have_more : (base : List Term) (time : ℕ) (terms : List Term) (i : ℕ) (term : Term) (given all : List (Option ℕ)) (id number : ℕ) (entries : List (List ℕ × ℕ))
+    → i < length terms → term ≡ get_or terms i term
+    → AreGivenAt time (with_terms base (map (bound_term time) (take i terms))) (take i terms) given
+    → HasIdIn (with_term (with_terms base (map (bound_term time) (take i terms))) (bound_term time term)) (bound_term time term) id
+    → IsNumbering base (with_term (with_terms base (map (bound_term time) (take i terms))) (bound_term time term)) number entries
+    → all ≡ given ++ (Some id ∷ []) → HaveSoFar base time terms (i + 1) all number entries
+have_more base time terms i term given all id number entries below is so_far has numbering pushed =
+    let f = bound_term time in
+    let known = with_terms base (map f (take i terms)) in
+    let more : take (i + 1) terms ≡ take i terms ++ (term ∷ []) = take_more terms i term below ∙ ap (λ t. take i terms ++ (t ∷ [])) (sym is) in
+    let grown : with_terms base (map f (take (i + 1) terms)) ≡ with_term known (f term) =
+    ap (λ ts. with_terms base (map f ts)) more ∙ ap (with_terms base) (map-append f (take i terms) (term ∷ [])) ∙ with_terms-append base (map f (take i terms)) (f term ∷ []) in
+    let R = λ (t : Term) (o : Option ℕ). IsGivenIn (with_term known (f term)) (f t) o in
+    let old : AllZip R (take i terms) given = zip_weaker (λ t o. IsGivenIn known (f t) o) R (λ t o. given_grown known (f term) (f t) o) (take i terms) given so_far in
+    let new : AllZip R (take i terms ++ (term ∷ [])) (given ++ (Some id ∷ [])) = all_zipped_more R (take i terms) given term (Some id) old has in
+    record {
+      ids = subst (λ (ks : List Term). AreGivenAt time ks (take (i + 1) terms) all) (sym grown)
+          (subst (AllZip R (take (i + 1) terms)) (sym pushed) (subst (λ (ts : List Term). AllZip R ts (given ++ (Some id ∷ []))) (sym more) new));
+      numbering = subst (λ (ks : List Term). IsNumbering base ks number entries) (sym grown) numbering;
+    }
+
+-- all terms have their ids
+pub have_all : (base : List Term) (time : ℕ) (terms : List Term) (i : ℕ) (given : List (Option ℕ)) (number : ℕ) (entries : List (List ℕ × ℕ)) → length terms ≤ i
+    → HaveSoFar base time terms i given number entries
+    → AreIdsAt time (with_terms base (map (bound_term time) terms)) terms given × IsNumbering base (with_terms base (map (bound_term time) terms)) number entries
+have_all base time terms i given number entries end have =
+    let whole : take i terms ≡ terms = take_all i terms end in
+    let ids = subst (λ (ts : List Term). AreGivenAt time (with_terms base (map (bound_term time) ts)) ts given) whole have.ids in (
+      zip_weaker _ _ (λ t o. given_is _ (bound_term time t) o) terms given ids,
+      subst (λ (ts : List Term). IsNumbering base (with_terms base (map (bound_term time) ts)) number entries) whole have.numbering,
+    )
+
+-- an Add gives ids by the ones that are known already
+pub add_tells : (C : List Term → List Term → List Term → Type 0) (kind : Kind) (count time : ℕ) (terms vocabulary : List Term) (ids raw given : List (Option ℕ))
+    → kind ≡ Add → vocabulary ≡ terms → raw ≡ ids → given ≡ known_ids vocabulary raw
+    → ((base : List Term) → IsBase base count time → BindWell time vocabulary → AreIdsAt time base vocabulary given → C base (with_terms base (map (bound_term time) vocabulary)) vocabulary)
+    → (base : List Term) → IsBase base count time → BindWell time terms → AreIdsIn base terms ids → C base (with_terms base (brought kind (map (bound_term time) terms))) terms
+add_tells C kind count time terms vocabulary ids raw given add same also is tells base base_is bind are =
+    let f = bound_term time in
+    let gives : given ≡ known_ids terms ids = is ∙ (λ i. known_ids (same i) (also i)) in
+    let all : AreIdsAt time base terms given = subst (AreIdsAt time base terms) (sym gives) (known_all base time base_is.earlier terms ids are) in
+    let told = tells base base_is (subst (BindWell time) (sym same) bind) (subst (λ (ts : List Term). AreIdsAt time base ts given) (sym same) all) in
+    subst (λ (k : Kind). C base (with_terms base (brought k (map f terms))) terms) (sym add) (subst (λ (ts : List Term). C base (with_terms base (map f ts)) ts) same told)
+
+-- a Remove gives none
+pub remove_ids : (kind : Kind) (count time : ℕ) (terms vocabulary : List Term) (ids raw given : List (Option ℕ))
+    → kind ≡ Remove → vocabulary ≡ terms → raw ≡ ids → given ≡ known_ids vocabulary raw
+    → (base : List Term) → IsBase base count time → AreIdsIn base terms ids → AreIdsAt time (with_terms base (brought kind (map (bound_term time) terms))) terms given
+remove_ids kind count time terms vocabulary ids raw given remove same also is base base_is are =
+    let gives : given ≡ known_ids terms ids = is ∙ (λ i. known_ids (same i) (also i)) in
+    let all : AreIdsAt time base terms given = subst (AreIdsAt time base terms) (sym gives) (known_all base time base_is.earlier terms ids are) in
+    subst (λ (k : Kind). AreIdsAt time (with_terms base (brought k (map (bound_term time) terms))) terms given) (sym remove) all
+
+pub remove_numbering : (kind : Kind) (count time : ℕ) (terms : List Term) (entries : List (List ℕ × ℕ)) → kind ≡ Remove → entries ≡ []
+    → (base : List Term) → IsBase base count time → IsNumbering base (with_terms base (brought kind (map (bound_term time) terms))) count entries
+remove_numbering kind count time terms entries remove none base base_is =
+    subst (λ (k : Kind). IsNumbering base (with_terms base (brought k (map (bound_term time) terms))) count entries) (sym remove) (numbering_base base count time entries base_is none)

@@ -1,0 +1,65 @@
+-- The rows that one change gives, and what is known of its terms before it is committed.
+use Rattle.std.specs.Prelude.{◌≡◌, ◌↔◌, ℕ, List, [], ◌∷◌, length, Option, Some, None}
+use Rattle.std.specs.List.{slice_get}
+use Rattle.term_core.specs.declared.term.Term.{Term}
+use Rattle.term_core.specs.declared.statement.Statement.{Statement}
+use Rattle.window_core.specs.declared.rows.Index.{Index}
+use Rattle.window_core.specs.declared.rows.Index.TheVariants.{T2i, I2t, Spo, Pos, Osp}
+use Rattle.window_core.specs.declared.rows.Row.{Row}
+use Rattle.window_core.specs.Rows.{StandInOrder}
+use Rattle.term_core.specs.Lists.{Has}
+use Rattle.change_model.specs.declared.entry.Entry.{Entry}
+use Rattle.change_model.specs.declared.entry.Resolved.{Resolved}
+use Rattle.change_model.specs.declared.vocabulary.Places.{Places}
+use Rattle.change_model.specs.declared.vocabulary.Vocabulary.{Vocabulary}
+use Rattle.change_model.specs.History.{History}
+use Rattle.change_model.specs.Lexicon.{lexicon_at, HasId, with_terms, terms_of}
+use Rattle.change_model.specs.IndexRows.{IsRow}
+
+-- the rows that the history gives to the index at this time, by key
+pub record AreRowsOf (index : Index) (history : History) (time : ℕ) (rows : List Row) : Type 0 where
+  pub order : StandInOrder rows
+  pub exactly : (row : Row) → Has rows row ↔ (IsRow index history row × (row.time ≡ time))
+
+-- the entry has the rows of the history's last change
+pub record IsLastEntry (history : History) (entry : Entry) : Type 0 where
+  pub time : entry.time ≡ length history
+  pub terms : entry.terms ≡ length (lexicon_at history (length history))
+  pub t2i : AreRowsOf T2i history entry.time entry.t2i
+  pub i2t : AreRowsOf I2t history entry.time entry.i2t
+  pub spo : AreRowsOf Spo history entry.time entry.spo
+  pub pos : AreRowsOf Pos history entry.time entry.pos
+  pub osp : AreRowsOf Osp history entry.time entry.osp
+
+-- the id is the term's, and none exactly where it has none
+abbrev pub IsIdOf : History → Term → Option ℕ → Type 0
+IsIdOf history term (Some id) = HasId history (length history) term id
+IsIdOf history term None = (id : ℕ) → HasId history (length history) term id → ⊥
+
+abbrev pub AreIdsOf : History → List Term → List (Option ℕ) → Type 0
+AreIdsOf history [] [] = Unit {0}
+AreIdsOf history [] (id ∷ ids) = ⊥
+AreIdsOf history (term ∷ terms) [] = ⊥
+AreIdsOf history (term ∷ terms) (id ∷ ids) = IsIdOf history term id × AreIdsOf history terms ids
+
+-- the places name the statement's terms among these
+pub record IsPlaced (terms : List Term) (statement : Statement) (places : Places) : Type 0 where
+  pub subject : slice_get terms places.subject ≡ Some statement.subject
+  pub predicate : slice_get terms places.predicate ≡ Some statement.predicate
+  pub object : slice_get terms places.object ≡ Some statement.object
+
+abbrev pub ArePlaced : List Term → List Statement → List Places → Type 0
+ArePlaced terms [] [] = Unit {0}
+ArePlaced terms [] (places ∷ more) = ⊥
+ArePlaced terms (statement ∷ statements) [] = ⊥
+ArePlaced terms (statement ∷ statements) (places ∷ more) = IsPlaced terms statement places × ArePlaced terms statements more
+
+-- the distinct terms of the statements by first appearance, and where each statement's terms stand there
+pub record IsVocabularyOf (statements : List Statement) (vocabulary : Vocabulary) : Type 0 where
+  pub terms : vocabulary.terms ≡ with_terms [] (terms_of statements)
+  pub places : ArePlaced vocabulary.terms statements vocabulary.places
+
+-- the terms of a change, its labels unbound, and their ids after this history
+pub record IsResolved (history : History) (resolved : Resolved) : Type 0 where
+  pub vocabulary : IsVocabularyOf resolved.change.statements resolved.vocabulary
+  pub ids : AreIdsOf history resolved.vocabulary.terms resolved.ids

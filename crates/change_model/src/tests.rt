@@ -1,0 +1,143 @@
+use super::*;
+use std::alloc::Global;
+use std::test::Fail;
+use term_core::{List, Statement, Term, Text, Want};
+use window_core::{Cell, Row, Rows};
+
+const SPO_1_2_3: &[u8] = b"\0\0\0\0\0\0\0\x01\0\0\0\0\0\0\0\x02\0\0\0\0\0\0\0\x03";
+
+fn iri(alloc: Global, text: &str) -> Result<Term, Want> {
+    Ok(Term::Iri(Text::of(alloc, text)?))
+}
+
+fn statement(alloc: Global, subject: &str, object: Term) -> Result<Statement, Want> {
+    Ok(Statement {
+        subject: iri(alloc, subject)?,
+        predicate: iri(alloc, "p")?,
+        object,
+    })
+}
+
+/// The entry of a change that is committed at the time 5, with so many ids known before.
+fn entry_for(
+    alloc: Global,
+    kind: Kind,
+    statements: List<Statement>,
+    ids: [Option<u64>; 3],
+    known: u64,
+) -> Result<Entry, Want> {
+    let vocabulary = vocabulary_of(alloc, &statements)?;
+    let change = Change { kind, statements };
+    let ids = List::of(Vec::from_array(alloc, ids)?);
+    let resolved = Resolved {
+        change,
+        vocabulary,
+        ids,
+    };
+    entry_of(alloc, &resolved, known, 5)
+}
+
+/// The statement `a p b`, so many times.
+fn same(alloc: Global, times: u8) -> Result<List<Statement>, Want> {
+    let mut statements = Vec::new(alloc);
+    for _ in 0..times {
+        statements.push(statement(alloc, "a", iri(alloc, "b")?)?)?;
+    }
+    Ok(List::of(statements))
+}
+
+fn one(alloc: Global, statement: Statement) -> Result<List<Statement>, Want> {
+    let mut statements = Vec::new(alloc);
+    statements.push(statement)?;
+    Ok(List::of(statements))
+}
+
+/// Whether the first row has this key, and this value if there is one.
+fn begins_with(rows: &Rows, key: &[u8], value: Option<&[u8]>) -> bool {
+    match rows.items().first() {
+        Some(row) => row.key.bytes() == key && has_value(row, value),
+        None => false,
+    }
+}
+
+fn has_value(row: &Row, bytes: Option<&[u8]>) -> bool {
+    match (&row.cell, bytes) {
+        (Cell::Value(value), Some(bytes)) => value.bytes() == bytes,
+        (Cell::Deleted, None) => true,
+        _ => false,
+    }
+}
+
+#[test]
+fn a_vocabulary_has_shared_terms_once(rt: HostRuntime) -> Result<(), Fail> {
+    let statements = one(
+        rt.alloc(),
+        statement(rt.alloc(), "a", iri(rt.alloc(), "a")?)?,
+    )?;
+    let vocabulary = vocabulary_of(rt.alloc(), &statements)?;
+    assert_eq!(rt; vocabulary.terms.items().len(), 2);
+    let places = Places {
+        subject: 0,
+        predicate: 1,
+        object: 0,
+    };
+    assert_eq!(rt; vocabulary.places.items(), [places].as_slice());
+    Ok(())
+}
+
+#[test]
+fn an_add_gives_ids_from_1(rt: HostRuntime) -> Result<(), Fail> {
+    let statements = same(rt.alloc(), 1)?;
+    let entry = entry_for(rt.alloc(), Kind::Add, statements, [None, None, None], 0)?;
+    assert_eq!(rt; entry.terms, 3);
+    assert!(rt; begins_with(&entry.t2i, b"\x01a", Some(b"\0\0\0\0\0\0\0\x01")));
+    assert!(rt; begins_with(&entry.i2t, b"\0\0\0\0\0\0\0\x01", Some(b"\x01a")));
+    Ok(())
+}
+
+#[test]
+fn a_statement_that_stands_twice_has_one_row(rt: HostRuntime) -> Result<(), Fail> {
+    let statements = same(rt.alloc(), 2)?;
+    let ids = [Some(1), Some(2), Some(3)];
+    let entry = entry_for(rt.alloc(), Kind::Add, statements, ids, 3)?;
+    assert_eq!(rt; entry.spo.items().len(), 1);
+    assert!(rt; begins_with(&entry.spo, SPO_1_2_3, Some(b"")));
+    Ok(())
+}
+
+#[test]
+fn a_remove_marks_a_statement_of_known_terms(rt: HostRuntime) -> Result<(), Fail> {
+    let statements = same(rt.alloc(), 1)?;
+    let ids = [Some(1), Some(2), Some(3)];
+    let entry = entry_for(rt.alloc(), Kind::Remove, statements, ids, 3)?;
+    assert!(rt; entry.t2i.items().is_empty());
+    assert!(rt; begins_with(&entry.spo, SPO_1_2_3, None));
+    Ok(())
+}
+
+#[test]
+fn a_remove_of_an_unknown_term_gives_no_row(rt: HostRuntime) -> Result<(), Fail> {
+    let statements = same(rt.alloc(), 1)?;
+    let ids = [None, Some(2), Some(3)];
+    let entry = entry_for(rt.alloc(), Kind::Remove, statements, ids, 3)?;
+    assert!(rt; entry.t2i.items().is_empty());
+    assert!(rt; entry.spo.items().is_empty());
+    Ok(())
+}
+
+#[test]
+fn a_label_is_bound_at_the_time(rt: HostRuntime) -> Result<(), Fail> {
+    let label = Text::of(rt.alloc(), "x")?;
+    let node = Term::Blank { at: 0, label };
+    let statements = one(rt.alloc(), statement(rt.alloc(), "a", node)?)?;
+    let ids = [Some(1), Some(2), None];
+    let entry = entry_for(rt.alloc(), Kind::Add, statements, ids, 2)?;
+    assert!(rt;
+        begins_with(
+            &entry.t2i,
+            b"\x04\0\0\0\0\0\0\0\x05x",
+            Some(b"\0\0\0\0\0\0\0\x03")
+        )
+    );
+    Ok(())
+}
