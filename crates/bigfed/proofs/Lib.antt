@@ -1,8 +1,12 @@
+pub mod Chunks
+pub mod Collected
+pub mod Commits
 pub mod Gathered
-pub mod Graphs
+pub mod Growth
+pub mod Lasts
+pub mod Matched
 pub mod Names
 pub mod Outsides
 pub mod QueryParts
 pub mod QueryTokens
-pub mod Solving
 pub mod Steps

@@ -1,12 +1,15 @@
 -- One command, as the history and the store see it.
-use Rattle.std.proofs.Common.{◌≡◌, ℕ, ◌+◌, ◌<◌, ◌≤◌, List, [], ◌∷◌, ◌++◌, length, map, ◌⊎◌, inl, inr, refl, sym, ◌∙◌, ap, IfOk, OnOk, Result, Ok, Err}
-use Rattle.std.proofs.Common.{drop, get_or, subst, append_assoc}
+use Rattle.std.proofs.Common.{◌≡◌, ℕ, ◌+◌, ◌<◌, ◌≤◌, List, [], ◌∷◌, ◌++◌, length, inl, inr, refl, sym, ◌∙◌, ap, IfOk, OnOk, Option, Some, None, Result, Ok, Err}
+use Rattle.std.proofs.Common.{drop, get_or, subst, append_assoc, arith}
 use Rattle.std.proofs.lemmas.List.{length-map, drop_more, drop_all}
 use Rattle.term_core.specs.declared.statement.Statement.{Statement}
-use Rattle.term_core.specs.declared.lines.LineEnd.TheVariants.{Any}
 use Rattle.term_core.specs.Lines.{lines_of}
 use Rattle.term_core.specs.Lists.{Has}
-use Rattle.nt_text.specs.Document.{IsDocument}
+use Rattle.term_core.specs.declared.lines.LineEnd.TheVariants.{Any}
+use Rattle.nt_text.specs.declared.document.DocFault.{DocFault}
+use Rattle.nt_text.specs.Document.{IsDocument, IsFirstLabel}
+use Rattle.nt_text.specs.Faults.{HasCause}
+use Rattle.nt_text.specs.Limits.{AreWithinLimits}
 use Rattle.bgp_model.specs.declared.query.Query.{Query}
 use Rattle.bgp_model.specs.declared.solution.Solution.{Solution}
 use Rattle.bgp_model.specs.Solutions.{Solutions}
@@ -14,67 +17,119 @@ use Rattle.work_text.specs.declared.docs.Doc.{Doc}
 use Rattle.work_text.specs.declared.docs.Doc.TheVariants.{Bytes}
 use Rattle.work_text.specs.declared.work.Command.TheVariants.{Query as Ask}
 use Rattle.work_text.specs.declared.work.Line.{Line}
-use Rattle.change_model.specs.declared.history.Kind.TheVariants.{Add}
+use Rattle.change_model.specs.declared.history.Kind.{Kind}
+use Rattle.change_model.specs.declared.history.Kind.TheVariants.{Add, Remove}
 use Rattle.change_model.specs.declared.history.Committed.{Committed}
 use Rattle.change_model.specs.declared.history.Origin.{Origin}
 use Rattle.work_text.specs.declared.report.Outcome.{Outcome}
-use Rattle.work_text.specs.declared.report.Outcome.TheVariants.{Loaded, Answered, TooMany}
-use Rattle.change_model.specs.History.{History, graph_at}
+use Rattle.work_text.specs.declared.report.Outcome.TheVariants.{Changed, Answered, TooManyRows}
+use Rattle.change_model.specs.History.{History}
 use Rattle.bigfed.specs.declared.store.Store.{Store}
-use Rattle.bigfed.specs.Legal.{LoadStep, QueryStep, Step, Runs, column_names}
+use Rattle.bigfed.specs.Legal.{IsReadAs, Commits, IsRefused, refusal_of, LoadStep, UnloadStep, QueryStep, Step, Runs, column_names}
 use Rattle.bigfed.specs.QueryText.{Reads}
+use Rattle.bgp_model.specs.declared.query.Pattern.{Pattern}
+use Rattle.bigfed.specs.Indexed.{AreMatching}
 use Rattle.bigfed.specs.Standing.{StandsFor}
-use Rattle.bigfed.proofs.Graphs.{StandsFor-added}
-use Rattle.bigfed.proofs.Solving.{Solutions-same}
+use Rattle.bigfed.proofs.Matched.{solved}
 
 -- a store has as many origins as its history has changes
 pub length-origins : (store : Store) (history : History) → StandsFor store history → length store.origins ≡ length history
 length-origins store history stands = ap length stands.origins ∙ length-map history (λ (committed : Committed). committed.origin)
 
--- a document was put in
-pub committed : {E : Type 0} (result : Result Outcome E) (old new : Store) (history : History) (bytes : List ℕ) (statements : List Statement) (origin : Origin)
-    → StandsFor old history → IsDocument bytes statements
-    → IfOk result (λ outcome. outcome ≡ Loaded (length old.origins + 1))
-    → OnOk result (new.graph ≡ old.graph ++ statements) → OnOk result (new.origins ≡ old.origins ++ origin ∷ [])
-    → IfOk result (λ outcome. (after : History) × LoadStep (Bytes bytes) origin history outcome after × StandsFor new after)
-committed (Ok outcome) old new history bytes statements origin stands says time graph origins = (
-  history ++ record { change = record { kind = Add; statements = statements }; origin = origin } ∷ [],
-  inl (statements, says, time ∙ ap (λ n. Loaded (n + 1)) (length-origins old history stands), refl),
-  StandsFor-added old new history (lines_of Any bytes) statements origin stands says graph origins,
+-- a change was committed
+pub committed : {E : Type 0} (result : Result Outcome E) (old new : Store) (history : History) (kind : Kind) (statements : List Statement) (origin : Origin)
+    → StandsFor old history
+    → IfOk result (λ outcome. outcome ≡ Changed (length old.origins + 1))
+    → OnOk result (StandsFor new (history ++ record { change = record { kind = kind; statements = statements }; origin = origin } ∷ []))
+    → IfOk result (λ outcome. (after : History) × Commits kind statements origin history outcome after × StandsFor new after)
+committed (Ok outcome) old new history kind statements origin stands time after = (
+  history ++ record { change = record { kind = kind; statements = statements }; origin = origin } ∷ [],
+  (time ∙ ap (λ n. Changed (n + 1)) (length-origins old history stands), refl),
+  after,
 )
-committed (Err e) old new history bytes statements origin stands says time graph origins = tt
+committed (Err e) old new history kind statements origin stands time after = tt
 
--- a query was answered over the triples of the store
-pub answered : (store : Store) (history : History) (text : List ℕ) (query : Query) (rows : List Solution) (time : ℕ) (columns : List (List ℕ))
-    → StandsFor store history → length text ≤ 65536 → Reads text query → Solutions (Has store.graph) query rows → length rows ≤ 1000000
+-- a document was put in
+pub loaded : {E : Type 0} (result : Result Outcome E) (new : Store) (history : History) (bytes : List ℕ) (statements : List Statement) (first_label : Option ℕ)
+    (origin : Origin) → IsReadAs bytes statements first_label
+    → IfOk result (λ outcome. (after : History) × Commits Add statements origin history outcome after × StandsFor new after)
+    → IfOk result (λ outcome. (after : History) × LoadStep (Bytes bytes) origin history outcome after × StandsFor new after)
+loaded (Ok outcome) new history bytes statements first_label origin read done = (done.0, inl (statements, first_label, read, done.1), done.2)
+loaded (Err e) new history bytes statements first_label origin read done = tt
+
+-- a document in which no line has a blank node
+pub read_without_label : (bytes : List ℕ) (statements : List Statement) (first_label : Option ℕ) → IsDocument bytes statements → AreWithinLimits statements
+    → IsFirstLabel (lines_of Any bytes) 1 first_label → ((line : ℕ) → first_label ≡ Some line → ⊥) → IsReadAs bytes statements None
+read_without_label bytes statements None says within label none = record { document = says; within = within; label = label }
+read_without_label bytes statements (Some line) says within label none = absurd (none line refl)
+
+-- a document was taken out
+pub unloaded : {E : Type 0} (result : Result Outcome E) (new : Store) (history : History) (bytes : List ℕ) (statements : List Statement) (origin : Origin)
+    → IsReadAs bytes statements None
+    → IfOk result (λ outcome. (after : History) × Commits Remove statements origin history outcome after × StandsFor new after)
+    → IfOk result (λ outcome. (after : History) × UnloadStep (Bytes bytes) origin history outcome after × StandsFor new after)
+unloaded (Ok outcome) new history bytes statements origin read done = (done.0, inl (statements, inl (read, done.1)), done.2)
+unloaded (Err e) new history bytes statements origin read done = tt
+
+-- a document with a bad line was refused
+pub refused : {E : Type 0} (result : Result Outcome E) (store : Store) (history : History) (bytes : List ℕ) (bad : DocFault)
+    → StandsFor store history → HasCause bytes bad → IfOk result (λ outcome. refusal_of bad ≡ Some outcome)
+    → IfOk result (λ outcome. (after : History) × IsRefused bytes history outcome after × StandsFor store after)
+refused (Ok outcome) store history bytes bad stands cause says = (history, (bad, cause, says, refl), stands)
+refused (Err e) store history bytes bad stands cause says = tt
+
+pub not_loaded : {E : Type 0} (result : Result Outcome E) (store : Store) (history : History) (bytes : List ℕ) (origin : Origin)
+    → IfOk result (λ outcome. (after : History) × IsRefused bytes history outcome after × StandsFor store after)
+    → IfOk result (λ outcome. (after : History) × LoadStep (Bytes bytes) origin history outcome after × StandsFor store after)
+not_loaded (Ok outcome) store history bytes origin done = (done.0, inr done.1, done.2)
+not_loaded (Err e) store history bytes origin done = tt
+
+pub not_unloaded : {E : Type 0} (result : Result Outcome E) (store : Store) (history : History) (bytes : List ℕ) (origin : Origin)
+    → IfOk result (λ outcome. (after : History) × IsRefused bytes history outcome after × StandsFor store after)
+    → IfOk result (λ outcome. (after : History) × UnloadStep (Bytes bytes) origin history outcome after × StandsFor store after)
+not_unloaded (Ok outcome) store history bytes origin done = (done.0, inr done.1, done.2)
+not_unloaded (Err e) store history bytes origin done = tt
+
+-- a list of one pattern
+pub only_one : (patterns : List Pattern) (pattern : Pattern) → length patterns ≡ 1 → pattern ≡ get_or patterns 0 pattern → patterns ≡ pattern ∷ []
+only_one [] pattern long is = absurd (omega arith)
+only_one (one ∷ []) pattern long is = ap (λ p. p ∷ []) (sym is)
+only_one (one ∷ other ∷ more) pattern long is = absurd (omega arith)
+
+-- a query was answered over the triples that were read for its pattern
+pub answered : (store : Store) (history : History) (text : List ℕ) (query : Query) (pattern : Pattern) (triples : List Statement) (rows : List Solution) (time : ℕ)
+    (columns : List (List ℕ))
+    → StandsFor store history → length text ≤ 65536 → Reads text query → query.patterns ≡ pattern ∷ [] → AreMatching history pattern triples
+    → Solutions (Has triples) query rows → length rows ≤ 1000000
     → time ≡ length store.origins → columns ≡ column_names query
     → QueryStep text history (Answered time columns rows)
-answered store history text query rows time columns stands short reads solved few is names =
+answered store history text query pattern triples rows time columns stands short reads one are solutions few is names =
     inr (
       short,
       inl (
         query,
         reads,
         rows,
-        Solutions-same (Has store.graph) (graph_at history (length history)) query rows stands.graph solved,
+        solved history query pattern triples rows one are solutions,
         inl (few, (λ i. Answered ((is ∙ length-origins store history stands) i) (names i) rows)),
       ),
     )
 
 -- or it had too many rows
-pub over : (store : Store) (history : History) (text : List ℕ) (query : Query) (rows : List Solution) (time : ℕ)
-    → StandsFor store history → length text ≤ 65536 → Reads text query → Solutions (Has store.graph) query rows → 1000000 < length rows
+pub over : (store : Store) (history : History) (text : List ℕ) (query : Query) (pattern : Pattern) (triples : List Statement) (rows : List Solution) (time : ℕ)
+    → StandsFor store history → length text ≤ 65536 → Reads text query → query.patterns ≡ pattern ∷ [] → AreMatching history pattern triples
+    → Solutions (Has triples) query rows → 1000000 < length rows
     → time ≡ length store.origins
-    → QueryStep text history (TooMany time)
-over store history text query rows time stands short reads solved many is =
+    → QueryStep text history (TooManyRows time)
+over store history text query pattern triples rows time stands short reads one are solutions many is =
     inr (
       short,
       inl (
         query,
         reads,
         rows,
-        Solutions-same (Has store.graph) (graph_at history (length history)) query rows stands.graph solved,
-        inr (many, ap TooMany (is ∙ length-origins store history stands)),
+        solved history query pattern triples rows one are solutions,
+        inr (many, ap TooManyRows (is ∙ length-origins store history stands)),
       ),
     )
 

@@ -1,42 +1,77 @@
 -- A report is legal where it tells one history, from the empty one on, and answers from it. Today there is one session.
-use Rattle.std.specs.Prelude.{◌≡◌, ℕ, ◌+◌, ◌<◌, ◌≤◌, List, [], ◌∷◌, ◌++◌, length, map, ◌⊎◌}
+use Rattle.std.specs.Prelude.{◌≡◌, ℕ, ◌+◌, ◌<◌, ◌≤◌, List, [], ◌∷◌, ◌++◌, length, map, Option, Some, None, ◌⊎◌}
 use Rattle.std.specs.List.{slice_get}
 use Rattle.std.specs.Option.{unwrap_or}
 use Rattle.term_core.specs.declared.statement.Statement.{Statement}
-use Rattle.nt_text.specs.Document.{IsDocument, IsBadLine}
+use Rattle.term_core.specs.declared.lines.LineEnd.TheVariants.{Any}
+use Rattle.term_core.specs.Lines.{lines_of}
+use Rattle.nt_text.specs.declared.document.DocFault.{DocFault}
+use Rattle.nt_text.specs.declared.document.DocFault.TheVariants as fault
+use Rattle.nt_text.specs.Document.{IsDocument, IsFirstLabel}
+use Rattle.nt_text.specs.Faults.{HasCause}
+use Rattle.nt_text.specs.Limits.{AreWithinLimits}
 use Rattle.bgp_model.specs.declared.query.Query.{Query}
 use Rattle.bgp_model.specs.declared.solution.Solution.{Solution}
 use Rattle.bgp_model.specs.Solutions.{Solutions}
 use Rattle.work_text.specs.declared.docs.Doc.{Doc}
 use Rattle.work_text.specs.declared.docs.Doc.TheVariants.{Bytes, Missing, TooLarge}
-use Rattle.change_model.specs.declared.history.Kind.TheVariants.{Add}
-use Rattle.change_model.specs.declared.history.Change.{Change}
-use Rattle.change_model.specs.declared.history.Committed.{Committed}
+use Rattle.change_model.specs.declared.history.Kind.TheVariants.{Add, Remove}
+use Rattle.change_model.specs.declared.history.Kind.{Kind}
 use Rattle.change_model.specs.declared.history.Origin.{Origin}
 use Rattle.work_text.specs.declared.report.Outcome.{Outcome}
-use Rattle.work_text.specs.declared.report.Outcome.TheVariants.{Loaded, Answered, NoDocument, DocumentTooLarge, NotBuilt, QueryNotBuilt, TooMany}
+use Rattle.work_text.specs.declared.report.Outcome.TheVariants.{Changed, Answered, NoDocument, DocumentTooLarge, BadLine, TermTooLong, TooManyStatements, LabelInRemoval, QueryNotBuilt, TooManyRows}
 use Rattle.work_text.specs.declared.report.RunReport.{RunReport}
 use Rattle.work_text.specs.declared.work.Command.{Command}
-use Rattle.work_text.specs.declared.work.Command.TheVariants.{Load, Query as Ask}
+use Rattle.work_text.specs.declared.work.Command.TheVariants.{Load, Unload, Query as Ask}
 use Rattle.work_text.specs.declared.work.Line.{Line}
 use Rattle.work_text.specs.declared.work.Work.{Work}
 use Rattle.change_model.specs.History.{History, graph_at}
 use Rattle.bigfed.specs.QueryText.{Reads}
 
--- the whole document is committed as one change
-abbrev pub Commits : List ℕ → Origin → History → Outcome → History → Type 0
-Commits bytes origin before outcome after =
-    (statements : List Statement) × IsDocument bytes statements × (outcome ≡ Loaded (length before + 1))
-    × (after ≡ before ++ record { change = record { kind = Add; statements = statements }; origin = origin } ∷ [])
+-- the bytes are a document of these statements, within the limits, and this is the first line that has a blank node
+pub record IsReadAs (bytes : List ℕ) (statements : List Statement) (first_label : Option ℕ) : Type 0 where
+  pub document : IsDocument bytes statements
+  pub within : AreWithinLimits statements
+  pub label : IsFirstLabel (lines_of Any bytes) 1 first_label
+
+-- the statements are committed as one change
+abbrev pub Commits : Kind → List Statement → Origin → History → Outcome → History → Type 0
+Commits kind statements origin before outcome after =
+    (outcome ≡ Changed (length before + 1))
+    × (after ≡ before ++ record { change = record { kind = kind; statements = statements }; origin = origin } ∷ [])
+
+-- what is said of a document's first bad line
+abbrev pub refusal_of : DocFault → Option Outcome
+refusal_of fault.NoMemory = None
+refusal_of (fault.Line line) = Some (BadLine line)
+refusal_of (fault.TooLong line) = Some (TermTooLong line)
+refusal_of (fault.TooMany line) = Some (TooManyStatements line)
 
 -- a document with a bad line is refused whole
 abbrev pub IsRefused : List ℕ → History → Outcome → History → Type 0
-IsRefused bytes before outcome after = (line : ℕ) × IsBadLine bytes line × (outcome ≡ NotBuilt line) × (after ≡ before)
+IsRefused bytes before outcome after =
+    (bad : DocFault) × HasCause bytes bad × (refusal_of bad ≡ Some outcome) × (after ≡ before)
+
+-- the document's statements are put in
+abbrev pub Loads : List ℕ → Origin → History → Outcome → History → Type 0
+Loads bytes origin before outcome after =
+    (statements : List Statement) × (first_label : Option ℕ) × IsReadAs bytes statements first_label × Commits Add statements origin before outcome after
+
+-- A document without blank nodes has its statements taken out. One that has some is refused, and its first such line is named.
+abbrev pub Unloads : List ℕ → Origin → History → Outcome → History → Type 0
+Unloads bytes origin before outcome after =
+    (statements : List Statement) × ((IsReadAs bytes statements None × Commits Remove statements origin before outcome after)
+    ⊎ ((line : ℕ) × IsReadAs bytes statements (Some line) × (outcome ≡ LabelInRemoval line) × (after ≡ before)))
 
 abbrev pub LoadStep : Doc → Origin → History → Outcome → History → Type 0
 LoadStep Missing origin before outcome after = (outcome ≡ NoDocument) × (after ≡ before)
 LoadStep TooLarge origin before outcome after = (outcome ≡ DocumentTooLarge) × (after ≡ before)
-LoadStep (Bytes bytes) origin before outcome after = Commits bytes origin before outcome after ⊎ IsRefused bytes before outcome after
+LoadStep (Bytes bytes) origin before outcome after = Loads bytes origin before outcome after ⊎ IsRefused bytes before outcome after
+
+abbrev pub UnloadStep : Doc → Origin → History → Outcome → History → Type 0
+UnloadStep Missing origin before outcome after = (outcome ≡ NoDocument) × (after ≡ before)
+UnloadStep TooLarge origin before outcome after = (outcome ≡ DocumentTooLarge) × (after ≡ before)
+UnloadStep (Bytes bytes) origin before outcome after = Unloads bytes origin before outcome after ⊎ IsRefused bytes before outcome after
 
 abbrev pub column_names : Query → List (List ℕ)
 column_names query = map (λ column. unwrap_or (slice_get query.names column) []) query.columns
@@ -46,7 +81,7 @@ abbrev pub IsAnswer : List ℕ → History → Outcome → Type 0
 IsAnswer text history outcome =
     (query : Query) × Reads text query × (rows : List Solution) × Solutions (graph_at history (length history)) query rows
     × (((length rows ≤ 1000000) × (outcome ≡ Answered (length history) (column_names query) rows))
-    ⊎ ((1000000 < length rows) × (outcome ≡ TooMany (length history))))
+    ⊎ ((1000000 < length rows) × (outcome ≡ TooManyRows (length history))))
 
 abbrev pub QueryStep : List ℕ → History → Outcome → Type 0
 QueryStep text history outcome =
@@ -56,6 +91,7 @@ QueryStep text history outcome =
 -- what a command may do to the history, and what its outcome then is
 abbrev pub Step : (List ℕ → Doc) → Origin → Command → History → Outcome → History → Type 0
 Step docs origin (Load name) before outcome after = LoadStep (docs name) origin before outcome after
+Step docs origin (Unload name) before outcome after = UnloadStep (docs name) origin before outcome after
 Step docs origin (Ask text) before outcome after = QueryStep text before outcome × (after ≡ before)
 
 -- the commands, one after another, the first of them at this place in its session

@@ -1,7 +1,11 @@
+pub mod Adding
 pub mod Documents
+pub mod Indexed
 pub mod Legal
+pub mod Matching
 pub mod Program
 pub mod QueryReading
 pub mod QueryText
 pub mod Reading
+pub mod Shown
 pub mod Standing

@@ -1,13 +1,14 @@
 -- What the program answers, prints and ends with.
-use Rattle.std.specs.Prelude.{◌≡◌, ℕ, ◌+◌, ◌-◌, ◌<◌, ◌^◌, length, Bool, true, ◌&&◌, false, List, [], ◌∷◌, ◌++◌, Option, Some, None, if◌then◌else◌, codes, ◌⊎◌}
+use Rattle.std.specs.Prelude.{◌≡◌, ℕ, ◌+◌, ◌-◌, ◌<◌, ◌≤◌, ◌^◌, length, Bool, true, false, List, [], ◌∷◌, ◌++◌, Option, Some, None, if◌then◌else◌, codes, ◌⊎◌}
 use Rattle.std.specs.List.{list_all}
 use Rattle.std.specs.Fmt.{decimal}
 use Rattle.work_text.specs.declared.docs.Doc.{Doc}
 use Rattle.work_text.specs.declared.docs.Doc.TheVariants.{Bytes, Missing, TooLarge}
 use Rattle.work_text.specs.declared.report.Outcome.{Outcome}
-use Rattle.work_text.specs.declared.report.Outcome.TheVariants.{Loaded, Answered, NoDocument, DocumentTooLarge, NotBuilt, QueryNotBuilt, TooMany}
+use Rattle.work_text.specs.declared.report.Outcome.TheVariants.{Changed, Answered, NoDocument, DocumentTooLarge, BadLine, TermTooLong, TooManyStatements, LabelInRemoval, QueryNotBuilt, TooManyRows}
 use Rattle.work_text.specs.declared.report.RunReport.{RunReport}
-use Rattle.work_text.specs.declared.work.Command.TheVariants.{Load, Query}
+use Rattle.work_text.specs.declared.work.Command.TheVariants.{Load, Unload, Query}
+use Rattle.work_text.specs.declared.work.Command.{Command}
 use Rattle.work_text.specs.declared.work.Line.{Line}
 use Rattle.work_text.specs.declared.work.Work.{Work}
 use Rattle.change_model.specs.History.{History}
@@ -15,17 +16,21 @@ use Rattle.work_text.specs.Outside.{HasRisen, IsDocOf, IsTaken}
 use Rattle.work_text.specs.Report.{ended, report_text}
 use Rattle.work_text.specs.Work.{IsWork, IsBadLine}
 use Rattle.bigfed.specs.declared.answer.Answer.{Answer}
-use Rattle.bigfed.specs.declared.answer.Answer.TheVariants.{Usage, NoWork, WorkTooLarge, BadWork, ShelfFault, Ran}
+use Rattle.bigfed.specs.declared.answer.Answer.TheVariants.{Usage, NoWork, WorkTooLarge, BadWork, DocumentsTooLarge, ShelfFault, Ran}
 use Rattle.bigfed.specs.Legal.{Legal}
+use Rattle.bigfed.specs.QueryText.{with_name}
 
 abbrev pub is_done : Outcome → Bool
-is_done (Loaded time) = true
+is_done (Changed time) = true
 is_done (Answered time columns rows) = true
 is_done NoDocument = false
 is_done DocumentTooLarge = false
-is_done (NotBuilt line) = false
+is_done (BadLine line) = false
+is_done (TermTooLong line) = false
+is_done (TooManyStatements line) = false
+is_done (LabelInRemoval line) = false
 is_done QueryNotBuilt = false
-is_done (TooMany time) = false
+is_done (TooManyRows time) = false
 
 abbrev pub session_done : List Outcome → Bool
 session_done outcomes = list_all is_done outcomes
@@ -39,6 +44,7 @@ answer_text Usage = ended (codes "usage: bigfed replay WORK")
 answer_text NoWork = ended (codes "no work")
 answer_text WorkTooLarge = ended (codes "work too large")
 answer_text (BadWork line) = ended (codes "bad work line " ++ decimal line)
+answer_text DocumentsTooLarge = ended (codes "documents too large")
 answer_text (ShelfFault count) = ended (codes "shelf fault " ++ decimal count)
 answer_text (Ran work report) = report_text report work
 
@@ -48,6 +54,7 @@ answer_status Usage = 2
 answer_status NoWork = 2
 answer_status WorkTooLarge = 2
 answer_status (BadWork line) = 2
+answer_status DocumentsTooLarge = 2
 answer_status (ShelfFault count) = 3
 answer_status (Ran work report) = if all_done report.outcomes then 0 else 1
 
@@ -57,6 +64,7 @@ IsPrintable Usage = Unit {0}
 IsPrintable NoWork = Unit {0}
 IsPrintable WorkTooLarge = Unit {0}
 IsPrintable (BadWork line) = Unit {0}
+IsPrintable DocumentsTooLarge = Unit {0}
 IsPrintable (ShelfFault count) = Unit {0}
 IsPrintable (Ran work report) = report.opened + length report.origins < 2 ^ 64 - 1
 
@@ -64,21 +72,63 @@ IsPrintable (Ran work report) = report.opened + length report.origins < 2 ^ 64 -
 abbrev pub replay_of : List ℕ → List (List ℕ)
 replay_of name = codes "replay" ∷ name ∷ []
 
--- some line loads the document of this name
-abbrev pub IsNamed : List ℕ → List Line → Type 0
-IsNamed name [] = ⊥
-IsNamed name (line ∷ lines) = (line.command ≡ Load name) ⊎ IsNamed name lines
-
 abbrev pub Documents : Type 0
 Documents = Option (List (List ℕ × List ℕ))
+
+-- the name of the document that a command needs
+abbrev pub name_of : Command → Option (List ℕ)
+name_of (Load name) = Some name
+name_of (Unload name) = Some name
+name_of (Query text) = None
+
+-- some line needs the document of this name
+abbrev pub IsNamed : List ℕ → List Line → Type 0
+IsNamed name [] = ⊥
+IsNamed name (line ∷ lines) = (name_of line.command ≡ Some name) ⊎ IsNamed name lines
+
+abbrev pub with_document : List (List ℕ) → Option (List ℕ) → List (List ℕ)
+with_document names None = names
+with_document names (Some name) = with_name names name
+
+-- the names that the lines need, each once, behind these
+abbrev pub with_lines : List (List ℕ) → List Line → List (List ℕ)
+with_lines names [] = names
+with_lines names (line ∷ lines) = with_lines (with_document names (name_of line.command)) lines
+
+-- a document that is too large by itself isn't read, and counts for nothing
+abbrev pub size_of : Doc → ℕ
+size_of (Bytes bytes) = length bytes
+size_of Missing = 0
+size_of TooLarge = 0
+
+-- how many bytes the documents of these names have together
+abbrev pub total : (List ℕ → Doc) → List (List ℕ) → ℕ
+total docs [] = 0
+total docs (name ∷ names) = size_of (docs name) + total docs names
+
+-- the documents under the names that a work needs, and what they have together
+pub record AreDocuments (told : Documents) (work : Work) (docs : List ℕ → Doc) (size : ℕ) : Type 0 where
+  pub each : (name : List ℕ) → IsNamed name work.lines → IsDocOf told 33554432 name (docs name)
+  pub size_is : size ≡ total docs (with_lines [] work.lines)
 
 -- the report of a run is legal for its history, over the documents that the shelf has
 pub record Reports (told : Documents) (bytes : List ℕ) (work : Work) (report : RunReport) : Type 0 where
   pub work_is : IsWork bytes work
   pub docs : List ℕ → Doc
-  pub docs_are : (name : List ℕ) → IsNamed name work.lines → IsDocOf told 33554432 name (docs name)
+  pub size : ℕ
+  pub docs_are : AreDocuments told work docs size
+  pub within : size ≤ 536870912
   pub history : History
   pub legal : Legal docs work report history
+
+-- the documents that a work needs have over 536,870,912 bytes together
+pub record AreTooLarge (told : Documents) (bytes : List ℕ) : Type 0 where
+  pub work : Work
+  pub work_is : IsWork bytes work
+  pub docs : List ℕ → Doc
+  pub size : ℕ
+  pub docs_are : AreDocuments told work docs size
+  pub above : 536870912 < size
 
 -- The answer has its cause in the words, in what the shelf tells, and in its count of faults before and after the call.
 abbrev pub HasCause : List (List ℕ) → Documents → ℕ → ℕ → Answer → Type 0
@@ -87,6 +137,8 @@ HasCause words told before after NoWork = (name : List ℕ) × (words ≡ replay
 HasCause words told before after WorkTooLarge = (name : List ℕ) × (words ≡ replay_of name) × IsDocOf told 1048576 name TooLarge
 HasCause words told before after (BadWork line) =
     (name bytes : List ℕ) × (words ≡ replay_of name) × IsDocOf told 1048576 name (Bytes bytes) × IsBadLine bytes line
+HasCause words told before after DocumentsTooLarge =
+    (name bytes : List ℕ) × (words ≡ replay_of name) × IsDocOf told 1048576 name (Bytes bytes) × AreTooLarge told bytes
 HasCause words told before after (ShelfFault count) =
     (name : List ℕ) × (words ≡ replay_of name) × HasRisen before after × (count ≡ after)
 HasCause words told before after (Ran work report) =

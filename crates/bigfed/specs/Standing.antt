@@ -1,11 +1,10 @@
 -- What a store stands for.
-use Rattle.std.specs.Prelude.{◌≡◌, length, map, ◌↔◌}
-use Rattle.term_core.specs.declared.statement.Statement.{Statement}
-use Rattle.term_core.specs.Lists.{Has}
-use Rattle.change_model.specs.History.{History, graph_at}
+use Rattle.std.specs.Prelude.{◌≡◌, map}
+use Rattle.change_model.specs.History.{History}
 use Rattle.bigfed.specs.declared.store.Store.{Store}
+use Rattle.bigfed.specs.Indexed.{AreIndexesOf}
 
--- the store holds the triples that the history left, and where each of its changes came from
+-- the store has the indexes of the history, and where each of its changes came from
 pub record StandsFor (store : Store) (history : History) : Type 0 where
-  pub graph : (statement : Statement) → Has store.graph statement ↔ graph_at history (length history) statement
+  pub indexes : AreIndexesOf history store.indexes
   pub origins : store.origins ≡ map (λ committed. committed.origin) history

@@ -14,6 +14,8 @@ pub enum Answer {
     NoWork,
     WorkTooLarge,
     BadWork { line: u32 },
+    /// The documents that the work needs are too large together.
+    DocumentsTooLarge,
     ShelfFault { count: u64 },
     Ran { work: Work, report: RunReport },
 }
@@ -32,6 +34,7 @@ impl Answer {
                 let text = format!(in alloc; "bad work line {line}\n")?;
                 out.extend_from_slice(text.as_bytes())?;
             }
+            Answer::DocumentsTooLarge => out.extend_from_slice(b"documents too large\n")?,
             Answer::ShelfFault { count } => {
                 let text = format!(in alloc; "shelf fault {count}\n")?;
                 out.extend_from_slice(text.as_bytes())?;
@@ -46,7 +49,11 @@ impl Answer {
         ensures { result ≡ answer_status self.now }
     {
         match self {
-            Answer::Usage | Answer::NoWork | Answer::WorkTooLarge | Answer::BadWork { .. } => 2,
+            Answer::Usage
+            | Answer::NoWork
+            | Answer::WorkTooLarge
+            | Answer::BadWork { .. }
+            | Answer::DocumentsTooLarge => 2,
             Answer::ShelfFault { .. } => 3,
             Answer::Ran { report, .. } => {
                 if all_done(report.outcomes.items()) {
@@ -80,5 +87,5 @@ fn session_done(outcomes: &[Outcome]) -> bool
 fn is_done(outcome: &Outcome) -> bool
     ensures { result ≡ is_done outcome.now }
 {
-    matches!(outcome, Outcome::Loaded { .. } | Outcome::Answered { .. })
+    matches!(outcome, Outcome::Changed { .. } | Outcome::Answered { .. })
 }

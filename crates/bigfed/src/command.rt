@@ -135,7 +135,9 @@ fn run_named<S: Shelf>(alloc: Global, name: &Text, shelf: &mut S) -> Result<Answ
         Err(WorkFault::BadWork { line }) => return Ok(Answer::BadWork { line }),
         Err(WorkFault::NoMemory) => return Err(ShelfFault::NoMemory),
     };
-    let docs = gather(alloc, shelf, work.lines.items())?;
+    let Some(docs) = gather(alloc, shelf, &work)? else {
+        return Ok(Answer::DocumentsTooLarge);
+    };
     let report = replay(alloc, &work, &docs)?;
     Ok(Answer::Ran { work, report })
 }

@@ -6,10 +6,12 @@
 mod answer;
 mod command;
 mod files;
+mod indexes;
 mod query_build;
 mod query_text;
 mod replay;
 mod shelf;
+mod shown;
 mod sink;
 mod store;
 
@@ -20,6 +22,10 @@ use std::process::ExitCode;
 
 #[cfg(test)]
 mod tests;
+#[cfg(test)]
+mod tests_documents;
+#[cfg(test)]
+mod tests_indexes;
 
 fn main(rt: HostRuntime) -> ExitCode {
     let alloc = rt.alloc();

@@ -1,5 +1,5 @@
 //! Running a work over the documents that it names.
-ghost use Rattle.std.specs.Prelude.{◌≤◌, ◌+◌, ℕ, List, length, IfOk, OnOk};
+ghost use Rattle.std.specs.Prelude.{◌≡◌, ◌≤◌, ◌+◌, ℕ, List, length, IfOk, OnOk};
 ghost use Rattle.change_model.specs.History.{History};
 ghost use Rattle.work_text.specs.Outside.{IsWithin};
 ghost use Rattle.bigfed.specs.Documents.{docs_of};
@@ -10,7 +10,7 @@ use crate::shelf::Docs;
 use crate::store::Store;
 use change_model::Origin;
 use std::alloc::Global;
-use term_core::{List, Want};
+use term_core::{List, Text, Want};
 use work_text::{Command, Doc, Line, Outcome, RunReport, Work};
 
 /// Runs the commands of a work in order, from the empty history on.
@@ -20,7 +20,7 @@ pub fn replay(alloc: Global, work: &Work, docs: &Docs) -> Result<RunReport, Want
     ensures legal { IfOk result (λ report. (history : History) × Legal (docs_of docs.now) work.now report history) }
     ensures commits { IfOk result (λ report. length report.origins ≤ length work.now.lines) }
 {
-    let mut store = Store::new(alloc);
+    let mut store = Store::new(alloc)?;
     let mut outcomes = Vec::new(alloc);
     let mut place = 1u32;
     for line in work.lines.items() {
@@ -43,23 +43,38 @@ fn run_line(
     line: &Line,
     place: u32,
 ) -> Result<Outcome, Want>
-    requires { (name : List ℕ) → IsWithin 33554432 (docs_of docs.now name) }
+    requires within { (name : List ℕ) → IsWithin 33554432 (docs_of docs.now name) }
+    requires standing { (history : History) × StandsFor store.old history }
     ensures step { (history : History) → StandsFor store.old history → IfOk result (λ outcome. (after : History)
         × Step (docs_of docs.now) (record { session = line.now.session; command = place }) line.now.command history outcome after
         × StandsFor store.new after) }
     ensures commits { OnOk result (length store.new.origins ≤ length store.old.origins + 1) }
 {
+    let origin = Origin {
+        session: line.session,
+        command: place,
+    };
+    let missing = Doc::Missing;
     match &line.command {
         Command::Load(name) => {
-            let origin = Origin {
-                session: line.session,
-                command: place,
-            };
-            match docs.get(name) {
-                Some(doc) => store.load(alloc, doc, origin),
-                None => store.load(alloc, &Doc::Missing, origin),
-            }
+            let doc = document_in(docs, name, &missing);
+            store.load(alloc, doc, origin)
+        }
+        Command::Unload(name) => {
+            let doc = document_in(docs, name, &missing);
+            store.unload(alloc, doc, origin)
         }
         Command::Query(text) => store.query(alloc, text.items()),
+    }
+}
+
+/// The document of the name, which was asked for: there is none under another.
+fn document_in<'a>(docs: &'a Docs, name: &Text, missing: &'a Doc) -> &'a Doc
+    requires { missing.now ≡ Doc.Missing }
+    ensures { result.now ≡ docs_of docs.now name.now }
+{
+    match docs.get(name) {
+        Some(doc) => doc,
+        None => missing,
     }
 }

@@ -1,18 +1,22 @@
 //! Reading whole documents from a shelf.
-ghost use Rattle.std.specs.Prelude.{◌≡◌, ℕ, ◌≤◌, ◌<◌, ◌^◌, Option, List as Items, IfOk, OnOk, IsErrOf, IsTrue, false, vec_len};
-ghost use Rattle.bigfed.specs.Reading.{IsPartly, GoesOn};
+ghost use Rattle.std.specs.Prelude.{◌≡◌, ℕ, ◌+◌, ◌≤◌, ◌<◌, ◌^◌, Option, List as Items, [], IfOk, IfSome, IfNone, IsErrOf, IsTrue, false, vec_len, MatchOption};
 ghost use Rattle.work_text.specs.Outside.{HasRisen, IsDocOf, IsWithin};
-ghost use Rattle.bigfed.specs.Documents.{docs_of, Holds, AreDocsOf};
-ghost use Rattle.bigfed.specs.Program.{IsNamed};
+ghost use Rattle.bigfed.specs.Documents.{docs_of, AreGathered};
+ghost use Rattle.bigfed.specs.Program.{AreDocuments, IsNamed, name_of, size_of, total, with_document, with_lines};
+ghost use Rattle.bigfed.specs.QueryText.{with_name};
+ghost use Rattle.bigfed.specs.Reading.{IsPartly, GoesOn};
 ghost use Rattle.bigfed.specs.declared.shelf.ShelfFault.TheVariants.{NoMemory, Failed as Fails};
 
 use std::alloc::{AllocError, AllocFailed, Global};
 use std::collections::BTreeMap;
 use term_core::{List, Text, Want};
-use work_text::{Command, Doc, Failed, Line, Shelf};
+use work_text::{Command, Doc, Failed, Line, Shelf, Work};
 
 /// How many bytes a document may have.
 pub const MOST_DOCUMENT_BYTES: usize = 33_554_432;
+
+/// How many bytes the documents of a work may have together.
+const MOST_BYTES_TOGETHER: usize = 536_870_912;
 
 /// How many bytes are read at once.
 const CHUNK: usize = 65_536;
@@ -121,60 +125,95 @@ fn read_chunk<S: Shelf>(
     Ok(true)
 }
 
-/// Reads each document that a line loads, once, by first naming.
-pub fn gather<S: Shelf>(alloc: Global, shelf: &mut S, lines: &[Line]) -> Result<Docs, ShelfFault>
-    ensures found { IfOk result (λ docs. (name : List ℕ) → IsNamed name lines.now →
-        IsDocOf (S.documents shelf.old) 33554432 name (docs_of docs name)) }
-    ensures within { IfOk result (λ docs. (name : List ℕ) → IsWithin 33554432 (docs_of docs name)) }
+/// Reads each document that a work loads or unloads, once, by first naming. It stops where those that were read so far
+/// are too large together, and answers `None` then.
+pub fn gather<S: Shelf>(
+    alloc: Global,
+    shelf: &mut S,
+    work: &Work,
+) -> Result<Option<Docs>, ShelfFault>
+    ensures found { IfOk result (λ gathered. IfSome gathered (λ docs. (name : Items ℕ) → IsNamed name work.now.lines →
+        IsDocOf (S.documents shelf.old) 33554432 name (docs_of docs name))) }
+    ensures small { IfOk result (λ gathered. IfSome gathered (λ docs.
+        total (docs_of docs) (with_lines [] work.now.lines) ≤ 536870912)) }
+    ensures large { IfOk result (λ gathered. IfNone gathered ((docs : Items ℕ → Doc) × (size : ℕ)
+        × AreDocuments (S.documents shelf.old) work.now docs size × (536870912 < size))) }
+    ensures within { IfOk result (λ gathered. IfSome gathered (λ docs.
+        (name : Items ℕ) → IsWithin 33554432 (docs_of docs name))) }
     ensures same { S.documents shelf.new ≡ S.documents shelf.old }
     ensures later { S.fault_count shelf.old ≤ S.fault_count shelf.new }
     ensures fault { IsErrOf result ShelfFault.Failed → HasRisen (S.fault_count shelf.old) (S.fault_count shelf.new) }
 {
     let mut docs = BTreeMap::new(alloc);
-    for line in lines {
-        add_line(alloc, shelf, &mut docs, line)?;
+    let mut size = 0usize;
+    for line in work.lines.items() {
+        size += add_line(alloc, shelf, &mut docs, line)?;
+        if size > MOST_BYTES_TOGETHER {
+            return Ok(None);
+        }
     }
-    Ok(docs)
+    Ok(Some(docs))
 }
 
-/// Reads the document that a line loads, if it loads one.
+/// The name of the document that a command needs.
+fn document_of(command: &Command) -> Option<&Text>
+    ensures { MatchOption result (name_of command.now ≡ None) (λ name. name_of command.now ≡ Some name.now) }
+{
+    match command {
+        Command::Load(name) | Command::Unload(name) => Some(name),
+        Command::Query(_) => None,
+    }
+}
+
+/// Reads the document that a line needs, if it needs one, and answers how many bytes were added.
 fn add_line<S: Shelf>(
     alloc: Global,
     shelf: &mut S,
     docs: &mut Docs,
     line: &Line,
-) -> Result<(), ShelfFault>
-    ensures here { OnOk result ((name : Items ℕ) → line.now.command ≡ Command.Load name → Holds docs.new name) }
-    ensures keeps { OnOk result ((other : Items ℕ) → Holds docs.old other → Holds docs.new other) }
-    ensures read { AreDocsOf (S.documents shelf.old) docs.old → OnOk result (AreDocsOf (S.documents shelf.old) docs.new) }
+) -> Result<usize, ShelfFault>
+    ensures gathered { (names : Items (Items ℕ)) → (size : ℕ) → AreGathered (S.documents shelf.old) docs.old names size → IfOk result (λ more.
+        AreGathered (S.documents shelf.old) docs.new (with_document names (name_of line.now.command)) (size + more)) }
+    ensures few { IfOk result (λ more. more ≤ 33554432) }
     ensures same { S.documents shelf.new ≡ S.documents shelf.old }
     ensures later { S.fault_count shelf.old ≤ S.fault_count shelf.new }
     ensures fault { IsErrOf result ShelfFault.Failed → HasRisen (S.fault_count shelf.old) (S.fault_count shelf.new) }
 {
-    match &line.command {
-        Command::Load(name) => add(alloc, shelf, docs, name),
-        Command::Query(_) => Ok(()),
+    match document_of(&line.command) {
+        Some(name) => add(alloc, shelf, docs, name),
+        None => Ok(0),
     }
 }
 
-/// Reads the document of this name unless it was read before.
+/// Reads the document of this name unless it was read before, and answers how many bytes were added.
 fn add<S: Shelf>(
     alloc: Global,
     shelf: &mut S,
     docs: &mut Docs,
     name: &Text,
-) -> Result<(), ShelfFault>
-    ensures here { OnOk result (Holds docs.new name.now) }
-    ensures keeps { OnOk result ((other : Items ℕ) → Holds docs.old other → Holds docs.new other) }
-    ensures read { AreDocsOf (S.documents shelf.old) docs.old → OnOk result (AreDocsOf (S.documents shelf.old) docs.new) }
+) -> Result<usize, ShelfFault>
+    ensures gathered { (names : Items (Items ℕ)) → (size : ℕ) → AreGathered (S.documents shelf.old) docs.old names size → IfOk result (λ more.
+        AreGathered (S.documents shelf.old) docs.new (with_name names name.now) (size + more)) }
+    ensures few { IfOk result (λ more. more ≤ 33554432) }
     ensures same { S.documents shelf.new ≡ S.documents shelf.old }
     ensures later { S.fault_count shelf.old ≤ S.fault_count shelf.new }
     ensures fault { IsErrOf result ShelfFault.Failed → HasRisen (S.fault_count shelf.old) (S.fault_count shelf.new) }
 {
     if docs.contains_key(name) {
-        return Ok(());
+        return Ok(0);
     }
     let doc = read_whole(alloc, shelf, name, MOST_DOCUMENT_BYTES)?;
+    let size = size_of(&doc);
     docs.insert(name.copy(alloc)?, doc)?;
-    Ok(())
+    Ok(size)
+}
+
+/// How many bytes a document counts for.
+fn size_of(doc: &Doc) -> usize
+    ensures { result ≡ size_of doc.now }
+{
+    match doc {
+        Doc::Bytes(bytes) => bytes.items().len(),
+        Doc::Missing | Doc::TooLarge => 0,
+    }
 }

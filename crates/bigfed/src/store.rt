@@ -1,15 +1,18 @@
-//! The history of a run, kept as the triples that its changes put in and where each change came from.
-ghost use Rattle.std.specs.Prelude.{◌≡◌, ◌≤◌, ◌+◌, ◌∷◌, ◌++◌, [], length, IfOk, OnOk, slice_get, unwrap_or};
+//! The history of a run, kept as its five indexes and where each of its changes came from.
+ghost use Rattle.std.specs.Prelude.{◌≡◌, ◌≤◌, ◌<◌, ◌+◌, ◌*◌, ◌^◌, ◌∷◌, ◌++◌, [], length, Some, IfOk, OnOk, slice_get, unwrap_or};
+ghost use Rattle.std.specs.List.{AllByRecursion};
+ghost use Rattle.term_core.specs.Term.{IsStatement};
 ghost use Rattle.change_model.specs.History.{History};
 ghost use Rattle.work_text.specs.Outside.{IsWithin};
-ghost use Rattle.bigfed.specs.Legal.{LoadStep, QueryStep, column_names};
+ghost use Rattle.bigfed.specs.Legal.{LoadStep, UnloadStep, QueryStep, refusal_of, column_names};
 
+use crate::indexes::Indexes;
 use crate::query_text::read_query;
-use bgp_model::{BgpFault, Query, Solution, solve_plainly};
-use change_model::Origin;
+use bgp_model::{BgpFault, Query, solve_plainly};
+use change_model::{Change, Kind, Origin, entry_of};
 use nt_text::{DocFault, read_document};
 use std::alloc::Global;
-use term_core::{List, Statement, Text, Want};
+use term_core::{List, Text, Want};
 use work_text::{Doc, Outcome};
 
 /// A query's text may be this long.
@@ -18,10 +21,9 @@ const MOST_QUERY_BYTES: usize = 65_536;
 /// A query may have so many rows.
 const MOST_ROWS: u32 = 1_000_000;
 
-#[derive(Debug, Drop)]
+#[derive(Drop)]
 pub struct Store {
-    /// The statements of all changes, one change behind the other; one that came twice stands here twice.
-    graph: List<Statement>,
+    indexes: Indexes,
     /// Where each change came from.
     origins: List<Origin>,
 }
@@ -30,13 +32,13 @@ impl Store {
     ghost use Rattle.bigfed.specs.Standing.{StandsFor};
 
     /// The store without a change.
-    pub fn new(alloc: Global) -> Store
-        ensures { StandsFor result [] }
+    pub fn new(alloc: Global) -> Result<Store, Want>
+        ensures { IfOk result (λ store. StandsFor store []) }
     {
-        Store {
-            graph: List::of(Vec::new(alloc)),
+        Ok(Store {
+            indexes: Indexes::new(alloc)?,
             origins: List::of(Vec::new(alloc)),
-        }
+        })
     }
 
     /// Where each change came from, in the order of their times.
@@ -46,9 +48,11 @@ impl Store {
         self.origins
     }
 
-    /// Commits a document as one change, or refuses it whole.
+    /// Puts the statements of a document in as one change, or refuses it whole. After an `Err` the store stands for no
+    /// history any more.
     pub fn load(&mut self, alloc: Global, doc: &Doc, origin: Origin) -> Result<Outcome, Want>
         requires within { IsWithin 33554432 doc.now }
+        requires standing { (history : History) × StandsFor self.old history }
         ensures step { (history : History) → StandsFor self.old history → IfOk result (λ outcome.
             (after : History) × LoadStep doc.now origin history outcome after × StandsFor self.new after) }
         ensures commits { OnOk result (length self.new.origins ≤ length self.old.origins + 1) }
@@ -60,28 +64,77 @@ impl Store {
         };
         let document = match read_document(alloc, bytes.items()) {
             Ok(document) => document,
-            Err(DocFault::NotBuilt { line }) => return Ok(Outcome::NotBuilt { line }),
-            Err(DocFault::NoMemory) => return Err(Want::NoMemory),
+            Err(fault) => return refusal(fault),
         };
-        self.commit(alloc, document.statements, origin)
+        let change = Change {
+            kind: Kind::Add,
+            statements: document.statements,
+        };
+        self.commit(alloc, change, origin)
     }
 
-    /// Puts a change's statements in.
-    fn commit(
-        &mut self,
-        alloc: Global,
-        statements: List<Statement>,
-        origin: Origin,
-    ) -> Result<Outcome, Want>
-        ensures time { IfOk result (λ outcome. outcome ≡ Outcome.Loaded (length self.old.origins + 1)) }
-        ensures graph { OnOk result (self.new.graph ≡ self.old.graph ++ statements) }
-        ensures origins { OnOk result (self.new.origins ≡ self.old.origins ++ origin ∷ []) }
+    /// Takes the statements of a document out as one change, or refuses it whole: it may have no blank node, which would
+    /// be one of this very change. After an `Err` the store stands for no history any more.
+    pub fn unload(&mut self, alloc: Global, doc: &Doc, origin: Origin) -> Result<Outcome, Want>
+        requires within { IsWithin 33554432 doc.now }
+        requires standing { (history : History) × StandsFor self.old history }
+        ensures step { (history : History) → StandsFor self.old history → IfOk result (λ outcome.
+            (after : History) × UnloadStep doc.now origin history outcome after × StandsFor self.new after) }
+        ensures commits { OnOk result (length self.new.origins ≤ length self.old.origins + 1) }
     {
-        self.graph.append(statements)?;
+        let bytes = match doc {
+            Doc::Missing => return Ok(Outcome::NoDocument),
+            Doc::TooLarge => return Ok(Outcome::DocumentTooLarge),
+            Doc::Bytes(bytes) => bytes,
+        };
+        let document = match read_document(alloc, bytes.items()) {
+            Ok(document) => document,
+            Err(fault) => return refusal(fault),
+        };
+        if let Some(line) = document.first_label {
+            return Ok(Outcome::LabelInRemoval { line });
+        }
+        let change = Change {
+            kind: Kind::Remove,
+            statements: document.statements,
+        };
+        self.commit(alloc, change, origin)
+    }
+
+    /// Commits a change. Its labels are bound to its time.
+    fn commit(&mut self, alloc: Global, change: Change, origin: Origin) -> Result<Outcome, Want>
+        requires statements { AllByRecursion IsStatement change.statements }
+        requires standing { (history : History) × StandsFor self.old history }
+        ensures time { IfOk result (λ outcome. outcome ≡ Outcome.Changed (length self.old.origins + 1)) }
+        ensures stands { (history : History) → StandsFor self.old history
+            → OnOk result (StandsFor self.new (history ++ record { change = change; origin = origin } ∷ [])) }
+        ensures commits { OnOk result (length self.new.origins ≡ length self.old.origins + 1) }
+    {
+        let time = self.next_time(change.statements.items().len())?;
+        let resolved = self.indexes.resolve(alloc, change)?;
+        let entry = entry_of(alloc, &resolved, self.indexes.terms(), time)?;
+        self.indexes.add(alloc, &entry)?;
         self.origins.append(List::of(vec![in alloc; origin]?))?;
-        Ok(Outcome::Loaded {
-            time: self.origins.items().len() as u64,
-        })
+        Ok(Outcome::Changed { time })
+    }
+
+    /// The time of the next change, of so many statements. So many changes that their times don't fit 64 bits, or so
+    /// many terms that their ids don't, would not fit in memory either.
+    fn next_time(&self, statements: usize) -> Result<u64, Want>
+        ensures time { IfOk result (λ time. time ≡ length self.now.origins + 1) }
+        ensures times { OnOk result (length self.now.origins + 1 < 2 ^ 64) }
+        ensures ids { OnOk result (self.now.indexes.terms + 3 * statements < 2 ^ 64) }
+    {
+        let Some(new) = (statements as u64).checked_mul(3) else {
+            return Err(Want::NoMemory);
+        };
+        if self.indexes.terms().checked_add(new).is_none() {
+            return Err(Want::NoMemory);
+        }
+        match (self.origins.items().len() as u64).checked_add(1) {
+            Some(time) => Ok(time),
+            None => Err(Want::NoMemory),
+        }
     }
 
     /// Answers a query over the triples that all changes so far left.
@@ -95,15 +148,28 @@ impl Store {
             return Ok(Outcome::QueryNotBuilt);
         };
         let time = self.origins.items().len() as u64;
-        match solve_plainly(alloc, &self.graph, &query, MOST_ROWS) {
+        let triples = self.indexes.matching(alloc, &query.patterns.items()[0])?;
+        match solve_plainly(alloc, &triples, &query, MOST_ROWS) {
             Ok(rows) => Ok(Outcome::Answered {
                 time,
                 columns: column_names(alloc, &query)?,
                 rows,
             }),
-            Err(BgpFault::TooMany) => Ok(Outcome::TooMany { time }),
+            Err(BgpFault::TooMany) => Ok(Outcome::TooManyRows { time }),
             Err(BgpFault::NoMemory) => Err(Want::NoMemory),
         }
+    }
+}
+
+/// What is said of a document's first bad line.
+fn refusal(fault: DocFault) -> Result<Outcome, Want>
+    ensures { IfOk result (λ outcome. refusal_of fault ≡ Some outcome) }
+{
+    match fault {
+        DocFault::NoMemory => Err(Want::NoMemory),
+        DocFault::Line { line } => Ok(Outcome::BadLine { line }),
+        DocFault::TooLong { line } => Ok(Outcome::TermTooLong { line }),
+        DocFault::TooMany { line } => Ok(Outcome::TooManyStatements { line }),
     }
 }
 

@@ -38,7 +38,7 @@ fn words(alloc: Global, list: &[&str]) -> Result<Vec<String>, Fail> {
 }
 
 /// Runs the words over the shelf, and compares what is printed and the status.
-fn expect(
+pub(crate) fn expect(
     rt: &(impl Abort + AllocGlobal),
     list: &[&str],
     shelf: &mut MemoryShelf,
@@ -54,7 +54,7 @@ fn expect(
 }
 
 /// The same for a work over one document.
-fn expect_run(
+pub(crate) fn expect_run(
     rt: &(impl Abort + AllocGlobal),
     work: &str,
     document: &str,
@@ -108,9 +108,9 @@ fn refused_commands_change_nothing(rt: HostRuntime) -> Result<(), Fail> {
     expect_run(
         &rt,
         "bigfed 1\n1 load a.nt\n",
-        "<http://e/a> <http://e/p> <http://e/b> .\n_:a <http://e/p> <http://e/b> .\n",
+        "<http://e/a> <http://e/p> <http://e/b> .\n_:a <http://e/p> <http://e/b>\n",
         1,
-        "opened 0\nsession 1\n1 load refused not built line 2\nhistory 0\n",
+        "opened 0\nsession 1\n1 load refused line 2\nhistory 0\n",
     )?;
     expect_run(
         &rt,

@@ -1,81 +1,31 @@
 -- An IRIREF that is read is one, and one that is spelled is read. Its characters are tested by their bytes.
-use Rattle.std.proofs.Common.{◌≡◌, ℕ, ◌≤◌, Bool, true, false, cond, ◌&&◌, ◌==◌, List, [], ◌∷◌, ◌++◌, get_or, Option, Some, None, refl, sym, ap, subst, ◌∙◌, append_assoc, inl, inr, arith}
+use Rattle.std.proofs.Common.{◌≡◌, ℕ, ◌≤◌, Bool, true, false, cond, ◌&&◌, ◌==◌, List, [], ◌∷◌, ◌++◌, Option, Some, None, refl, sym, ap, subst, ◌∙◌, append_assoc, arith}
 use Rattle.std.specs.List.{list_all}
-use Rattle.std.specs.Char.{encode_utf8}
-use Rattle.std.specs.Str.{IsUtf8, chars, is_utf8, encode_utf8_all}
-use Rattle.std.proofs.lemmas.Bool.{and_parts, and_from, cases_lt, eqb-true}
+use Rattle.std.specs.Str.{IsUtf8, is_utf8}
+use Rattle.std.proofs.lemmas.Bool.{and_parts, eqb-true}
 use Rattle.std.proofs.lemmas.Bool.Decides.{nat_tests}
-use Rattle.std.proofs.lemmas.List.{append-nil}
-use Rattle.std.proofs.lemmas.List.Recursion.{and_from_places}
-use Rattle.std.proofs.lemmas.Str.{inside_one, encode_ascii, chars-encodes, IsUtf8-from_is_utf8, is_utf8-from_IsUtf8}
+use Rattle.std.proofs.lemmas.Str.{IsUtf8-from_is_utf8, is_utf8-from_IsUtf8}
 use Rattle.term_core.specs.Characters.{is_iri_character}
 use Rattle.term_core.specs.Term.{IsIri}
 use Rattle.nt_text.specs.Cell.{bracketed}
 use Rattle.nt_text.specs.Reading.{run, behind_run, closed_iri, iri_at}
+use Rattle.nt_text.proofs.Encoded.{chars_pass, text_passes}
 use Rattle.nt_text.proofs.Runs.{run_parts, run_passes, run_again, behind_again}
 
 -- ---- characters and bytes
 
 -- no character beyond ASCII is left out
-iri_high : (b : ℕ) → 128 ≤ b → is_iri_character b ≡ true
+pub iri_high : (b : ℕ) → 128 ≤ b → is_iri_character b ≡ true
 unfolding is_iri_character
 iri_high b h = grind (arith, nat_tests)
 
-list_all-append : (test : ℕ → Bool) (xs ys : List ℕ) → list_all test xs ≡ true → list_all test ys ≡ true → list_all test (xs ++ ys) ≡ true
-list_all-append test [] ys p q = q
-list_all-append test (x ∷ xs) ys p q =
-    let h = and_parts (test x) (list_all test xs) p in
-    and_from (test x) (list_all test (xs ++ ys)) h.0 (list_all-append test xs ys h.1 q)
-
-list_all_parts : (test : ℕ → Bool) (xs ys : List ℕ) → list_all test (xs ++ ys) ≡ true → (list_all test xs ≡ true) × (list_all test ys ≡ true)
-list_all_parts test [] ys p = (refl, p)
-list_all_parts test (x ∷ xs) ys p =
-    let h = and_parts (test x) (list_all test (xs ++ ys)) p in
-    let rest = list_all_parts test xs ys h.1 in
-    (and_from (test x) (list_all test xs) h.0 rest.0, rest.1)
-
--- the bytes of a character
-encode_passes : (c : ℕ) → is_iri_character c ≡ true → list_all is_iri_character (encode_utf8 c) ≡ true
-encode_passes c h =
-    and_from_places (list_all is_iri_character) is_iri_character refl (λ x xs. refl) (encode_utf8 c) 0 (λ i lt.
-    elim (cases_lt (get_or (encode_utf8 c) i 0) 128) [
-      | inl low ↦ subst (λ (b : ℕ). is_iri_character b ≡ true) (inside_one c [] (encode_utf8 c) i (sym (append-nil (encode_utf8 c))) lt low) h
-      | inr high ↦ iri_high (get_or (encode_utf8 c) i 0) high
-    ])
-
-encode_back : (c : ℕ) → list_all is_iri_character (encode_utf8 c) ≡ true → is_iri_character c ≡ true
-encode_back c h =
-    elim (cases_lt c 128) [
-      | inl low ↦ (and_parts (is_iri_character c) true (subst (λ (bs : List ℕ). list_all is_iri_character bs ≡ true) (encode_ascii c low) h)).0
-      | inr high ↦ iri_high c high
-    ]
-
-characters_pass : (cs : List ℕ) → list_all is_iri_character (encode_utf8_all cs) ≡ true → list_all is_iri_character cs ≡ true
-characters_pass [] h = refl
-characters_pass (c ∷ cs) h =
-    let parts = list_all_parts is_iri_character (encode_utf8 c) (encode_utf8_all cs) h in
-    and_from (is_iri_character c) (list_all is_iri_character cs) (encode_back c parts.0) (characters_pass cs parts.1)
-
-bytes_pass : (cs : List ℕ) → list_all is_iri_character cs ≡ true → list_all is_iri_character (encode_utf8_all cs) ≡ true
-bytes_pass [] h = refl
-bytes_pass (c ∷ cs) h =
-    let parts = and_parts (is_iri_character c) (list_all is_iri_character cs) h in
-    list_all-append is_iri_character (encode_utf8 c) (encode_utf8_all cs) (encode_passes c parts.0) (bytes_pass cs parts.1)
-
 -- text whose bytes pass is an IRI
 pub IsIri-from_bytes : (iri : List ℕ) → IsUtf8 iri → list_all is_iri_character iri ≡ true → IsIri iri
-IsIri-from_bytes iri utf8 h =
-    let same : chars iri ≡ utf8.0 = ap chars (sym utf8.1.1) ∙ chars-encodes utf8.0 utf8.1.0 in
-    let each : list_all is_iri_character utf8.0 ≡ true = characters_pass utf8.0 (subst (λ (bs : List ℕ). list_all is_iri_character bs ≡ true) (sym utf8.1.1) h) in
-    record { utf8 = utf8; each = subst (λ (cs : List ℕ). list_all is_iri_character cs ≡ true) (sym same) each }
+IsIri-from_bytes iri utf8 h = record { utf8 = utf8; each = chars_pass is_iri_character iri_high iri utf8 h }
 
 -- and the bytes of an IRI pass
 pub IsIri-bytes : (iri : List ℕ) → IsIri iri → list_all is_iri_character iri ≡ true
-IsIri-bytes iri h =
-    let utf8 = h.utf8 in
-    let same : chars iri ≡ utf8.0 = ap chars (sym utf8.1.1) ∙ chars-encodes utf8.0 utf8.1.0 in
-    let each : list_all is_iri_character utf8.0 ≡ true = subst (λ (cs : List ℕ). list_all is_iri_character cs ≡ true) same h.each in
-    subst (λ (bs : List ℕ). list_all is_iri_character bs ≡ true) utf8.1.1 (bytes_pass utf8.0 each)
+IsIri-bytes iri h = text_passes is_iri_character iri_high iri h.utf8 h.each
 
 -- ---- the token
 

@@ -1,5 +1,13 @@
+pub mod TextTests
 pub mod Runs
-pub mod Iris
+pub mod Encoded
+pub mod PieceTexts
+pub mod Labels
+pub mod Tags
+pub mod Sources
+pub mod Tokens
 pub mod Triples
+pub mod Statements
 pub mod Documents
+pub mod Iris
 pub mod Irirefs

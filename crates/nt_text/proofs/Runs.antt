@@ -42,3 +42,16 @@ behind_none test [] pass = refl
 behind_none test (x ∷ xs) pass =
     let h = and_parts (test x) (list_all test xs) pass in
     cond-true (test x) (behind_run test xs) (x ∷ xs) h.0 ∙ behind_none test xs h.1
+
+-- a run goes on behind bytes that pass
+pub run-append : (test : ℕ → Bool) (xs ys : List ℕ) → list_all test xs ≡ true → run test (xs ++ ys) ≡ xs ++ run test ys
+run-append test [] ys pass = refl
+run-append test (x ∷ xs) ys pass =
+    let h = and_parts (test x) (list_all test xs) pass in
+    cond-true (test x) (x ∷ run test (xs ++ ys)) [] h.0 ∙ ap (λ (r : List ℕ). x ∷ r) (run-append test xs ys h.1)
+
+pub behind_run-append : (test : ℕ → Bool) (xs ys : List ℕ) → list_all test xs ≡ true → behind_run test (xs ++ ys) ≡ behind_run test ys
+behind_run-append test [] ys pass = refl
+behind_run-append test (x ∷ xs) ys pass =
+    let h = and_parts (test x) (list_all test xs) pass in
+    cond-true (test x) (behind_run test (xs ++ ys)) (x ∷ (xs ++ ys)) h.0 ∙ behind_run-append test xs ys h.1

@@ -19,6 +19,9 @@ abbrev pub bracketed : List ℕ → List ℕ
 bracketed iri = 60 ∷ iri ++ 62 ∷ []
 
 -- the datatype of a plain literal
+unfoldable pub xsd_string : List ℕ
+xsd_string = codes "http://www.w3.org/2001/XMLSchema#string"
+
 unfoldable pub is_string : List ℕ → Bool
 is_string datatype = pointwise nat_eq datatype (codes "http://www.w3.org/2001/XMLSchema#string")
 

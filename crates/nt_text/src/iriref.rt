@@ -3,8 +3,10 @@ ghost use Rattle.std.specs.Prelude.{◌≡◌, ℕ, List, IfOk, MatchOption};
 ghost use Rattle.term_core.specs.Term.{IsIri};
 ghost use Rattle.nt_text.specs.Cell.{bracketed};
 ghost use Rattle.nt_text.specs.Iriref.{IsIrirefOf};
+ghost use Rattle.nt_text.specs.Reading.{Reads, iri_at};
 
-use crate::line::read_iri_ref;
+use crate::run::{Class, cut_run};
+use crate::utf8::as_text;
 use std::alloc::Global;
 use term_core::{Text, Want};
 
@@ -24,8 +26,24 @@ fn whole_iri(token: &[u8]) -> Option<&str>
     ensures { MatchOption result ((iri : List ℕ) → IsIri iri → token.now ≡ bracketed iri → ⊥)
         (λ iri. IsIri iri.now × (token.now ≡ bracketed iri.now)) }
 {
-    let Some((iri, behind)) = read_iri_ref(token) else {
+    let Some((iri, behind)) = read_plain_iri(token) else {
         return None;
     };
     if behind.is_empty() { Some(iri) } else { None }
+}
+
+/// An IRIREF without escapes, and the bytes behind it.
+#[tactic(auto, unfolding(crate::specs::Reading::iri_at))]
+fn read_plain_iri(bytes: &[u8]) -> Option<(&str, &[u8])>
+    ensures { Reads (λ found. (found.0.now, found.1.now)) result (iri_at bytes.now) }
+{
+    let [b'<', inside @ ..] = bytes else {
+        return None;
+    };
+    let (iri, rest) = cut_run(inside, Class::IriCharacter);
+    let [b'>', behind @ ..] = rest else {
+        return None;
+    };
+    let iri = as_text(iri)?;
+    Some((iri, behind))
 }

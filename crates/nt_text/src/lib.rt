@@ -4,7 +4,14 @@
 mod cell;
 mod document;
 mod iriref;
+mod label;
+mod limits;
 mod line;
+mod pieces;
+mod run;
+mod tag;
+mod token;
+mod utf8;
 
 pub use cell::write_term;
 pub use document::{DocFault, Document, read_document};

@@ -30,86 +30,224 @@ fn blank(alloc: Global, at: u64, label: &str) -> Result<Term, Want> {
 
 const XSD_STRING: &str = "http://www.w3.org/2001/XMLSchema#string";
 
+fn cell(alloc: Global, term: Term) -> Result<Vec<u8>, Fail> {
+    let mut out = Vec::new(alloc);
+    write_term(alloc, &term, &mut out)?;
+    Ok(out)
+}
+
 #[test]
 fn terms_are_printed(rt: HostRuntime) -> Result<(), Fail> {
     let alloc = rt.alloc();
-    let cells = [
-        (iri(alloc, "http://e/a")?, "<http://e/a>"),
-        (literal(alloc, "x\ty", XSD_STRING)?, "\"x\\ty\""),
-        (
-            literal(alloc, "\"\\\n\r", XSD_STRING)?,
-            "\"\\\"\\\\\\n\\r\"",
-        ),
-        (tagged(alloc, "Alice", "en")?, "\"Alice\"@en"),
-        (
-            literal(alloc, "42", "http://www.w3.org/2001/XMLSchema#integer")?,
-            "\"42\"^^<http://www.w3.org/2001/XMLSchema#integer>",
-        ),
-        (blank(alloc, 1, "a")?, "_:c1.a"),
-    ];
-    for (term, cell) in &cells {
-        let mut out = vec![in alloc; b'>']?;
-        write_term(alloc, term, &mut out)?;
-        assert_eq!(rt; &out[1..], cell.as_bytes(), "at {cell}");
+    let plain_cell = cell(alloc, literal(alloc, "\"\\\n\r\t", XSD_STRING)?)?;
+    assert_eq!(rt; plain_cell.as_slice(), b"\"\\\"\\\\\\n\\r\\t\"".as_slice());
+    let typed_cell = cell(
+        alloc,
+        literal(alloc, "42", "http://www.w3.org/2001/XMLSchema#integer")?,
+    )?;
+    assert_eq!(rt;
+        typed_cell.as_slice(),
+        b"\"42\"^^<http://www.w3.org/2001/XMLSchema#integer>".as_slice()
+    );
+    let tagged_cell = cell(alloc, tagged(alloc, "Alice", "en")?)?;
+    assert_eq!(rt; tagged_cell.as_slice(), b"\"Alice\"@en".as_slice());
+    let iri_cell = cell(alloc, iri(alloc, "http://e/a")?)?;
+    assert_eq!(rt; iri_cell.as_slice(), b"<http://e/a>".as_slice());
+    let blank_cell = cell(alloc, blank(alloc, 1, "a")?)?;
+    assert_eq!(rt; blank_cell.as_slice(), b"_:c1.a".as_slice());
+    Ok(())
+}
+
+/// The document, where the bytes are few enough.
+fn document_of(alloc: Global, bytes: &[u8]) -> Result<Document, DocFault> {
+    if bytes.len() > 33554432 {
+        return Err(DocFault::NoMemory);
     }
+    read_document(alloc, bytes)
+}
+
+/// The count of statements, or the fault.
+fn read(alloc: Global, bytes: &[u8]) -> Result<usize, DocFault> {
+    let document = document_of(alloc, bytes)?;
+    Ok(document.statements.items().len())
+}
+
+fn line(number: u32) -> Result<usize, DocFault> {
+    Err(DocFault::Line { line: number })
+}
+
+#[test]
+fn lines_end_anyhow(rt: HostRuntime) {
+    let alloc = rt.alloc();
+    assert_eq!(rt; read(alloc, b""), Ok(0));
+    assert_eq!(rt; read(alloc, b"<a:a> <a:p> <a:b> ."), Ok(1));
+    assert_eq!(rt;
+        read(alloc, b"<a:a> <a:p> <a:b> .\r<a:a> <a:p> <a:c> .\n"),
+        Ok(2)
+    );
+    assert_eq!(rt;
+        read(alloc, b"<a:a> <a:p> <a:b> .\r\n<a:a> <a:p> <a:c> .\r\n"),
+        Ok(2)
+    );
+    assert_eq!(rt;
+        read(alloc, b"\n \t\n<a:a><a:p><a:b>.\n# a remark\n"),
+        Ok(1)
+    );
+    assert_eq!(rt; read(alloc, b" <a:a>\t<a:p> <a:b> . # a remark"), Ok(1));
+}
+
+#[test]
+fn the_first_line_outside_the_grammar_is_named(rt: HostRuntime) {
+    let alloc = rt.alloc();
+    assert_eq!(rt;
+        read(
+            alloc,
+            b"<a:a> <a:p> <a:b> .\n<a:a> <a:p> <a:c> .\n<a:a> <a:p> <a:d>\n<a:a> <a:p> <a:e> .\n<a:a> <a:p> <a:f> .\n"
+        ),
+        line(3)
+    );
+    assert_eq!(rt; read(alloc, b"<a:a> <a:p> \"\\uD800\" ."), line(1));
+    assert_eq!(rt; read(alloc, b"\xef\xbb\xbf<a:a> <a:p> <a:b> ."), line(1));
+}
+
+#[test]
+fn hostile_lines_of_iris_are_refused(rt: HostRuntime) {
+    let alloc = rt.alloc();
+    assert_eq!(rt; read(alloc, b"<a:a> <a:p> ."), line(1));
+    assert_eq!(rt; read(alloc, b"<a:a> <a:p> <a:b> . ."), line(1));
+    assert_eq!(rt; read(alloc, b"<a:a b> <a:p> <a:b> ."), line(1));
+    assert_eq!(rt; read(alloc, b"<a:a> <a:p> <a:b ."), line(1));
+    assert_eq!(rt; read(alloc, b"<\xc3> <a:p> <a:b> ."), line(1));
+    assert_eq!(rt; read(alloc, b"<a:\\u0020> <a:p> <a:b> ."), line(1));
+    assert_eq!(rt; read(alloc, b"<a:\\t> <a:p> <a:b> ."), line(1));
+    assert_eq!(rt; read(alloc, b"<a:\\u004> <a:p> <a:b> ."), line(1));
+    assert_eq!(rt; read(alloc, b"\"a\" <a:p> <a:b> ."), line(1));
+    assert_eq!(rt; read(alloc, b"<a:a> _:p <a:b> ."), line(1));
+    assert_eq!(rt; read(alloc, b"<a:a> <a:p> <a:b> . # \xff"), line(1));
+}
+
+#[test]
+fn hostile_literals_are_refused(rt: HostRuntime) {
+    let alloc = rt.alloc();
+    assert_eq!(rt; read(alloc, b"<a:a> <a:p> \"a ."), line(1));
+    assert_eq!(rt; read(alloc, b"<a:a> <a:p> \"a\\x\" ."), line(1));
+    assert_eq!(rt; read(alloc, b"<a:a> <a:p> \"\\U00110000\" ."), line(1));
+    assert_eq!(rt; read(alloc, b"<a:a> <a:p> \"\xc3\\u00A9\" ."), line(1));
+    assert_eq!(rt; read(alloc, b"<a:a> <a:p> \"a\"@ ."), line(1));
+    assert_eq!(rt; read(alloc, b"<a:a> <a:p> \"a\"@en- ."), line(1));
+    assert_eq!(rt; read(alloc, b"<a:a> <a:p> \"a\"@e1 ."), line(1));
+    assert_eq!(rt; read(alloc, b"<a:a> <a:p> \"a\"^<a:t> ."), line(1));
+    assert_eq!(rt; read(alloc, b"<a:a> <a:p> \"a\"^^_:t ."), line(1));
+}
+
+#[test]
+fn labels_end_where_they_should(rt: HostRuntime) {
+    let alloc = rt.alloc();
+    assert_eq!(rt; read(alloc, b"_:a.b <a:p> _:a."), Ok(1));
+    assert_eq!(rt; read(alloc, b"_:0<a:p>_:\xc3\xa9 ."), Ok(1));
+    assert_eq!(rt; read(alloc, b"_:a. <a:p> _:a ."), line(1));
+    assert_eq!(rt; read(alloc, b"_:a <a:p> _:a.."), line(1));
+    assert_eq!(rt; read(alloc, b"_:-a <a:p> _:a ."), line(1));
+    assert_eq!(rt; read(alloc, b"_: <a:p> _:a ."), line(1));
+    assert_eq!(rt; read(alloc, b"_:\xc3\x97 <a:p> _:a ."), line(1));
+}
+
+/// The cell of the object of the first statement; nothing where there is none.
+fn object_cell(alloc: Global, bytes: &[u8]) -> Result<Vec<u8>, Fail> {
+    let mut out = Vec::new(alloc);
+    let document = document_of(alloc, bytes)?;
+    if let Some(statement) = document.statements.items().first() {
+        write_term(alloc, &statement.object, &mut out)?;
+    }
+    Ok(out)
+}
+
+#[test]
+fn texts_mean_what_they_escape(rt: HostRuntime) -> Result<(), Fail> {
+    let alloc = rt.alloc();
+    let raw = object_cell(alloc, b"<a:a> <a:p> \"x\ty\" .")?;
+    assert_eq!(rt; raw.as_slice(), b"\"x\\ty\"".as_slice());
+    let escaped = object_cell(alloc, b"<a:a> <a:p> \"x\\ty\" .")?;
+    assert_eq!(rt; escaped.as_slice(), b"\"x\\ty\"".as_slice());
+    let letters = object_cell(alloc, b"<a:a> <a:p> \"\\b\\f\\'\\\"\\\\\\r\\n\" .")?;
+    assert_eq!(rt;
+        letters.as_slice(),
+        b"\"\x08\x0c'\\\"\\\\\\r\\n\"".as_slice()
+    );
+    let named = object_cell(alloc, b"<a:a> <a:p> \"\\u00e9\\U0001F600\"^^<a:\\u00E9> .")?;
+    assert_eq!(rt;
+        named.as_slice(),
+        b"\"\xc3\xa9\xf0\x9f\x98\x80\"^^<a:\xc3\xa9>".as_slice()
+    );
+    let tagged = object_cell(alloc, b"<a:a> <a:p> \"a\" @EN-gb.")?;
+    assert_eq!(rt; tagged.as_slice(), b"\"a\"@en-gb".as_slice());
+    let typed = object_cell(
+        alloc,
+        b"<a:a> <a:p> \"a\" ^^ <http://www.w3.org/2001/XMLSchema#string> .",
+    )?;
+    assert_eq!(rt; typed.as_slice(), b"\"a\"".as_slice());
     Ok(())
 }
 
 #[test]
-fn documents_are_read(rt: HostRuntime) -> Result<(), Fail> {
+fn a_file_as_people_have_it_is_read(rt: HostRuntime) -> Result<(), Fail> {
     let alloc = rt.alloc();
-    let documents: [(&[u8], Result<usize, u32>); 16] = [
-        (b"", Ok(0)),
-        (b"<http://e/a> <http://e/p> <http://e/b> .", Ok(1)),
-        (b"<http://e/a> <http://e/p> <http://e/b> .\n", Ok(1)),
-        (b"<http://e/a> <http://e/p> <http://e/b> .\r\n", Ok(1)),
-        (b" \t<http://e/a>\t<http://e/p> <http://e/b>\t . \t", Ok(1)),
-        (b"<http://e/a><http://e/p><http://e/b>.", Ok(1)),
-        (
-            b"<http://e/a> <http://e/p> <http://e/b> .\n\n \t\r<http://e/a> <http://e/p> <http://e/c> .\n",
-            Ok(2),
-        ),
-        (
-            b"<http://e/a> <http://e/p> <http://e/b> .\n_:a <http://e/p> <http://e/b> .\n",
-            Err(2),
-        ),
-        (b"\n\n<http://e/a> <http://e/p> <http://e/b>\n", Err(3)),
-        (b"<http://e/a> <http://e/p> .", Err(1)),
-        (b"<http://e/a> <http://e/p> <http://e/b> . .", Err(1)),
-        (b"<http://e/a b> <http://e/p> <http://e/b> .", Err(1)),
-        (b"<http://e/a> <http://e/p> <http://e/b .", Err(1)),
-        (b"<\xc3\xa9> <http://e/p> <http://e/b> .", Ok(1)),
-        (b"<\xc3> <http://e/p> <http://e/b> .", Err(1)),
-        (b"<http://e/\\u0061> <http://e/p> <http://e/b> .", Err(1)),
-    ];
-    for (bytes, outcome) in documents {
-        match (read_document(alloc, bytes), outcome) {
-            (Ok(document), Ok(count)) => assert_eq!(rt;
-                document.statements.items().len(),
-                count,
-                "at {bytes:?}"
-            ),
-            (Err(DocFault::NotBuilt { line }), Err(number)) => assert_eq!(rt;
-                line,
-                number,
-                "at {bytes:?}"
-            ),
-            _ => panic!(rt; "at {bytes:?}"),
-        }
-    }
-    Ok(())
-}
-
-#[test]
-fn terms_stand_in_their_places(rt: HostRuntime) -> Result<(), Fail> {
-    let alloc = rt.alloc();
-    let read = read_document(alloc, b"<http://e/a> <http://e/p> <\xc3\xa9> .\r\n");
-    let document = read.ok().ok_or("it is a document")?;
-    let [statement] = document.statements.items() else {
-        panic!(rt; "there is one statement");
+    let document = document_of(
+        alloc,
+        b"# people\r\n<http://example.org/alice> <http://xmlns.com/foaf/0.1/name> \"Alice\"@EN .\r\n<http://example.org/alice> <http://xmlns.com/foaf/0.1/knows> _:b0 .\r\n_:b0 <http://example.org/age> \"42\"^^<http://www.w3.org/2001/XMLSchema#integer> .\r\n",
+    )?;
+    assert_eq!(rt; document.first_label, Some(3));
+    let [name, knows, age] = document.statements.items() else {
+        panic!(rt; "there are three statements");
     };
-    assert!(rt; statement.subject.equals(&iri(alloc, "http://e/a")?));
-    assert!(rt; statement.predicate.equals(&iri(alloc, "http://e/p")?));
-    assert!(rt; statement.object.equals(&iri(alloc, "\u{e9}")?));
+    assert!(rt; name.object.equals(&tagged(alloc, "Alice", "en")?));
+    assert!(rt; knows.object.equals(&blank(alloc, 0, "b0")?));
+    assert!(rt; age.subject.equals(&blank(alloc, 0, "b0")?));
+    assert!(rt; age.predicate.equals(&iri(alloc, "http://example.org/age")?));
+    Ok(())
+}
+
+/// A line of an IRI of so many bytes.
+fn line_of(alloc: Global, length: usize) -> Result<Vec<u8>, Fail> {
+    let mut bytes = Vec::new(alloc);
+    bytes.extend_from_slice(b"<a:a> <a:p> <")?;
+    for _ in 0..length {
+        bytes.push(b'a')?;
+    }
+    bytes.extend_from_slice(b"> .\n")?;
+    Ok(bytes)
+}
+
+#[test]
+fn too_long_a_term_is_named(rt: HostRuntime) -> Result<(), Fail> {
+    let alloc = rt.alloc();
+    let longest = line_of(alloc, 65534)?;
+    assert_eq!(rt; read(alloc, &longest), Ok(1));
+    let longer = line_of(alloc, 65535)?;
+    assert_eq!(rt; read(alloc, &longer), Err(DocFault::TooLong { line: 1 }));
+    Ok(())
+}
+
+#[test]
+fn too_many_statements_are_named(rt: HostRuntime) -> Result<(), Fail> {
+    let alloc = rt.alloc();
+    let mut bytes = Vec::new(alloc);
+    for _ in 0..100000 {
+        bytes.extend_from_slice(b"<a> <p> <b> .\n")?;
+    }
+    assert_eq!(rt; read(alloc, &bytes), Ok(100000));
+    bytes.extend_from_slice(b"<a> <p> <b> .\n")?;
+    assert_eq!(rt;
+        read(alloc, &bytes),
+        Err(DocFault::TooMany { line: 100001 })
+    );
+    Ok(())
+}
+
+#[test]
+fn an_iri_is_read_by_itself(rt: HostRuntime) -> Result<(), Fail> {
+    let found = read_iriref(rt.alloc(), b"<a:a>")?.ok_or("it is an IRI")?;
+    assert_eq!(rt; found.text(), "a:a");
+    assert!(rt; read_iriref(rt.alloc(), b"<a:a> ")?.is_none());
     Ok(())
 }

@@ -10,10 +10,10 @@ use Rattle.std.proofs.lemmas.Bool.{false≢true, eqb-true}
 use Rattle.std.proofs.lemmas.List.{nil_from_length}
 use Rattle.std.proofs.lemmas.Bool.Decides.{nat_tests}
 use Rattle.work_text.specs.declared.work.Command.{Command}
-use Rattle.work_text.specs.declared.work.Command.TheVariants.{Load, Query}
+use Rattle.work_text.specs.declared.work.Command.TheVariants.{Load, Unload, Query}
 use Rattle.work_text.specs.declared.work.Line.{Line}
 use Rattle.work_text.specs.Work.{is_name_byte, IsName, IsCommand, IsLine, command_text, line_text, spelled, AreLines, IsFront}
-use Rattle.work_text.specs.WorkReading.{IsReadingOf, begun, AreBegun}
+use Rattle.work_text.specs.WorkReading.{IsReadingOf, IsNameOf, begun, AreBegun}
 
 -- ---- names
 
@@ -49,17 +49,25 @@ first_byte b c bs cs e = cc
 -- a command that is spelled so loads a document
 loads : (name : List ℕ) (command : Command) → IsCommand command → codes "load " ++ name ≡ command_text command → IsName name
 loads name (Load other) good e = let same : other ≡ name = cc in subst IsName same good
+loads name (Unload other) good e = absurd (omega (arith, first_byte 108 117 _ _ e))
 loads name (Query text) good e = absurd (omega (arith, first_byte 108 113 _ _ e))
+
+unloads : (name : List ℕ) (command : Command) → IsCommand command → codes "unload " ++ name ≡ command_text command → IsName name
+unloads name (Load other) good e = absurd (omega (arith, first_byte 117 108 _ _ e))
+unloads name (Unload other) good e = let same : other ≡ name = cc in subst IsName same good
+unloads name (Query text) good e = absurd (omega (arith, first_byte 117 113 _ _ e))
 
 queries : (text : List ℕ) (command : Command) → IsCommand command → codes "query " ++ text ≡ command_text command → text ≡ [] → ⊥
 queries text (Load name) good e none = omega (arith, first_byte 113 108 _ _ e)
+queries text (Unload name) good e none = omega (arith, first_byte 113 117 _ _ e)
 queries text (Query other) good e none = let same : other ≡ text = cc in good (same ∙ none)
 
 neither : (rest : List ℕ) (command : Command)
-    → ((name : List ℕ) → rest ≡ codes "load " ++ name → ⊥) → ((text : List ℕ) → rest ≡ codes "query " ++ text → ⊥)
-    → rest ≡ command_text command → ⊥
-neither rest (Load name) no_load no_query e = no_load name e
-neither rest (Query text) no_load no_query e = no_query text e
+    → ((name : List ℕ) → rest ≡ codes "load " ++ name → ⊥) → ((name : List ℕ) → rest ≡ codes "unload " ++ name → ⊥)
+    → ((text : List ℕ) → rest ≡ codes "query " ++ text → ⊥) → rest ≡ command_text command → ⊥
+neither rest (Load name) no_load no_unload no_query e = no_load name e
+neither rest (Unload name) no_load no_unload no_query e = no_unload name e
+neither rest (Query text) no_load no_unload no_query e = no_query text e
 
 -- no command stands where the name is none
 pub no_load : (text name : List ℕ) → text ≡ codes "1 load " ++ name → (IsName name → ⊥) → IsReadingOf text None
@@ -67,34 +75,58 @@ no_load text name is bad line good e =
     let both : 49 ∷ 32 ∷ (codes "load " ++ name) ≡ 49 ∷ 32 ∷ command_text line.command = sym is ∙ e ∙ line_text-is line good in
     bad (loads name line.command good.command cc)
 
+pub no_unload : (text name : List ℕ) → text ≡ codes "1 unload " ++ name → (IsName name → ⊥) → IsReadingOf text None
+no_unload text name is bad line good e =
+    let both : 49 ∷ 32 ∷ (codes "unload " ++ name) ≡ 49 ∷ 32 ∷ command_text line.command = sym is ∙ e ∙ line_text-is line good in
+    bad (unloads name line.command good.command cc)
+
 -- nor where the query is empty
 pub no_query : (text query : List ℕ) → text ≡ codes "1 query " ++ query → query ≡ [] → IsReadingOf text None
 no_query text query is none line good e =
     let both : 49 ∷ 32 ∷ (codes "query " ++ query) ≡ 49 ∷ 32 ∷ command_text line.command = sym is ∙ e ∙ line_text-is line good in
     queries query line.command good.command (cc) none
 
--- nor where the line begins with neither word
+-- nor where the line begins with none of the words
 pub no_command : (text : List ℕ)
-    → ((name : List ℕ) → text ≡ codes "1 load " ++ name → ⊥) → ((query : List ℕ) → text ≡ codes "1 query " ++ query → ⊥)
-    → IsReadingOf text None
-no_command text no_load no_query line good e =
+    → ((name : List ℕ) → text ≡ codes "1 load " ++ name → ⊥) → ((name : List ℕ) → text ≡ codes "1 unload " ++ name → ⊥)
+    → ((query : List ℕ) → text ≡ codes "1 query " ++ query → ⊥) → IsReadingOf text None
+no_command text no_load no_unload no_query line good e =
     neither (command_text line.command) line.command
     (λ name is. no_load name (e ∙ line_text-is line good ∙ ap (λ (rest : List ℕ). 49 ∷ 32 ∷ rest) is))
+    (λ name is. no_unload name (e ∙ line_text-is line good ∙ ap (λ (rest : List ℕ). 49 ∷ 32 ∷ rest) is))
     (λ query is. no_query query (e ∙ line_text-is line good ∙ ap (λ (rest : List ℕ). 49 ∷ 32 ∷ rest) is)) refl
 
--- the line that loads a document
-pub load_line : (text name found : List ℕ) → text ≡ codes "1 load " ++ name → IsName name → found ≡ name
-    → IsReadingOf text (Some (record { session = 1; command = Load found }))
+-- where the bytes are no name, none was found
+pub no_name : (bytes : List ℕ) (found : Option (List ℕ)) → IsNameOf bytes found → ((name : List ℕ) → found ≡ Some name → ⊥) → IsName bytes → ⊥
+no_name bytes None named other good = named good
+no_name bytes (Some name) named other good = other name refl
+
+-- a line that is this command of session 1
+said : (text : List ℕ) (line : Line) (command : Command) → line ≡ record { session = 1; command = command } → IsCommand command
+    → text ≡ 49 ∷ 32 ∷ command_text command → IsReadingOf text (Some line)
 unfolding digits
-load_line text name found is good same =
-    (record { session = refl; command = subst IsName (sym same) good }, is ∙ ap (λ (n : List ℕ). codes "1 load " ++ n) (sym same))
+said text line command same good is =
+    subst (λ (l : Line). IsLine l × (text ≡ line_text l)) (sym same) (record { session = refl; command = good }, is)
+
+-- the line that puts a document in
+pub load_line : (text bytes name : List ℕ) (found : Option (List ℕ)) (line : Line) → text ≡ codes "1 load " ++ bytes
+    → IsNameOf bytes found → found ≡ Some name → line ≡ record { session = 1; command = Load name } → IsReadingOf text (Some line)
+load_line text bytes name found line is named some same =
+    let good : IsName name × (bytes ≡ name) = subst (IsNameOf bytes) some named in
+    said text line (Load name) same good.0 (is ∙ ap (λ (n : List ℕ). codes "1 load " ++ n) good.1)
+
+-- the line that takes a document out
+pub unload_line : (text bytes name : List ℕ) (found : Option (List ℕ)) (line : Line) → text ≡ codes "1 unload " ++ bytes
+    → IsNameOf bytes found → found ≡ Some name → line ≡ record { session = 1; command = Unload name } → IsReadingOf text (Some line)
+unload_line text bytes name found line is named some same =
+    let good : IsName name × (bytes ≡ name) = subst (IsNameOf bytes) some named in
+    said text line (Unload name) same good.0 (is ∙ ap (λ (n : List ℕ). codes "1 unload " ++ n) good.1)
 
 -- the line that asks a query
-pub query_line : (text query found : List ℕ) → text ≡ codes "1 query " ++ query → (query ≡ [] → ⊥) → found ≡ query
-    → IsReadingOf text (Some (record { session = 1; command = Query found }))
-unfolding digits
-query_line text query found is some same =
-    (record { session = refl; command = λ none. some (sym same ∙ none) }, is ∙ ap (λ (q : List ℕ). codes "1 query " ++ q) (sym same))
+pub query_line : (text query found : List ℕ) (line : Line) → text ≡ codes "1 query " ++ query → (query ≡ [] → ⊥) → found ≡ query
+    → line ≡ record { session = 1; command = Query found } → IsReadingOf text (Some line)
+query_line text query found line is some same_text same =
+    said text line (Query found) same (λ none. some (sym same_text ∙ none)) (is ∙ ap (λ (q : List ℕ). codes "1 query " ++ q) (sym same_text))
 
 -- what a test for an empty list says
 pub is_empty : (xs : List ℕ) (empty : Bool) → empty ≡ true → empty ≡ (length xs == 0) → xs ≡ []
@@ -107,8 +139,13 @@ not_empty (x ∷ xs) empty was is none = let none : suc (length xs) ≡ 0 = ap l
 -- two commands of one text are the same
 same_command : (a b : Command) → command_text a ≡ command_text b → a ≡ b
 same_command (Load name) (Load other) e = cc
+same_command (Load name) (Unload other) e = absurd (omega (arith, first_byte 108 117 _ _ e))
 same_command (Load name) (Query text) e = absurd (omega (arith, first_byte 108 113 _ _ e))
+same_command (Unload name) (Load other) e = absurd (omega (arith, first_byte 117 108 _ _ e))
+same_command (Unload name) (Unload other) e = cc
+same_command (Unload name) (Query text) e = absurd (omega (arith, first_byte 117 113 _ _ e))
 same_command (Query text) (Load name) e = absurd (omega (arith, first_byte 113 108 _ _ e))
+same_command (Query text) (Unload name) e = absurd (omega (arith, first_byte 113 117 _ _ e))
 same_command (Query text) (Query other) e = cc
 
 line_with : ℕ → Command → Line

@@ -6,10 +6,10 @@ use Rattle.bgp_model.specs.declared.solution.Solution.{Solution}
 use Rattle.bgp_model.specs.Row.{line_of}
 use Rattle.change_model.specs.declared.history.Origin.{Origin}
 use Rattle.work_text.specs.declared.report.Outcome.{Outcome}
-use Rattle.work_text.specs.declared.report.Outcome.TheVariants.{Loaded, Answered, NoDocument, DocumentTooLarge, NotBuilt, QueryNotBuilt, TooMany}
+use Rattle.work_text.specs.declared.report.Outcome.TheVariants.{Changed, Answered, NoDocument, DocumentTooLarge, BadLine, TermTooLong, TooManyStatements, LabelInRemoval, QueryNotBuilt, TooManyRows}
 use Rattle.work_text.specs.declared.report.RunReport.{RunReport}
 use Rattle.work_text.specs.declared.work.Command.{Command}
-use Rattle.work_text.specs.declared.work.Command.TheVariants.{Load, Query}
+use Rattle.work_text.specs.declared.work.Command.TheVariants.{Load, Unload, Query}
 use Rattle.work_text.specs.declared.work.Line.{Line}
 use Rattle.work_text.specs.declared.work.Work.{Work}
 
@@ -30,16 +30,20 @@ answer_text time columns rows =
 
 -- the rest of a command's line, and the lines of a result behind it
 abbrev pub outcome_text : Outcome → List ℕ
-outcome_text (Loaded time) = ended (codes "time " ++ decimal time)
+outcome_text (Changed time) = ended (codes "time " ++ decimal time)
 outcome_text (Answered time columns rows) = answer_text time columns rows
 outcome_text NoDocument = ended (codes "refused no document")
 outcome_text DocumentTooLarge = ended (codes "refused document too large")
-outcome_text (NotBuilt line) = ended (codes "refused not built line " ++ decimal line)
+outcome_text (BadLine line) = ended (codes "refused line " ++ decimal line)
+outcome_text (TermTooLong line) = ended (codes "refused term too long line " ++ decimal line)
+outcome_text (TooManyStatements line) = ended (codes "refused too many statements line " ++ decimal line)
+outcome_text (LabelInRemoval line) = ended (codes "refused label in removal line " ++ decimal line)
 outcome_text QueryNotBuilt = ended (codes "refused query not built")
-outcome_text (TooMany time) = ended (codes "refused too many rows time " ++ decimal time)
+outcome_text (TooManyRows time) = ended (codes "refused too many rows time " ++ decimal time)
 
 abbrev pub verb : Command → List ℕ
 verb (Load name) = codes "load"
+verb (Unload name) = codes "unload"
 verb (Query text) = codes "query"
 
 abbrev pub command_text : ℕ → Command → Outcome → List ℕ

@@ -6,7 +6,7 @@ use Rattle.term_core.specs.declared.lines.LineEnd.TheVariants.{LineFeed}
 use Rattle.term_core.specs.Characters.{is_digit, is_letter}
 use Rattle.term_core.specs.Lines.{lines_of}
 use Rattle.work_text.specs.declared.work.Command.{Command}
-use Rattle.work_text.specs.declared.work.Command.TheVariants.{Load, Query}
+use Rattle.work_text.specs.declared.work.Command.TheVariants.{Load, Unload, Query}
 use Rattle.work_text.specs.declared.work.Line.{Line}
 use Rattle.work_text.specs.declared.work.Work.{Work}
 
@@ -39,6 +39,7 @@ pub record IsName (name : List ℕ) : Type 0 where
 
 abbrev pub IsCommand : Command → Type 0
 IsCommand (Load name) = IsName name
+IsCommand (Unload name) = IsName name
 IsCommand (Query text) = text ≢ []
 
 -- today all commands are of session 1
@@ -48,6 +49,7 @@ pub record IsLine (line : Line) : Type 0 where
 
 abbrev pub command_text : Command → List ℕ
 command_text (Load name) = codes "load " ++ name
+command_text (Unload name) = codes "unload " ++ name
 command_text (Query text) = codes "query " ++ text
 
 abbrev pub line_text : Line → List ℕ

@@ -3,7 +3,7 @@ use Rattle.std.specs.Prelude.{◌≡◌, ℕ, false, List, [], ◌∷◌, ◌++�
 use Rattle.work_text.specs.declared.read.WorkFault.{WorkFault}
 use Rattle.work_text.specs.declared.read.WorkFault.TheVariants.{NoMemory, BadWork}
 use Rattle.work_text.specs.declared.work.Line.{Line}
-use Rattle.work_text.specs.Work.{is_skipped, IsLine, line_text, spelled, AreLines, IsFront}
+use Rattle.work_text.specs.Work.{is_skipped, IsName, IsLine, line_text, spelled, AreLines, IsFront}
 
 -- the lines so far that aren't skipped: none yet, or the first line of a work and these commands
 abbrev pub begun : Option (List Line) → List (List ℕ)
@@ -27,6 +27,11 @@ abbrev pub CannotGoOn : Option (List Line) → List ℕ → ℕ → WorkFault �
 CannotGoOn read line number NoMemory = Unit {0}
 CannotGoOn read line number (BadWork bad) =
     (bad ≡ number) × (is_skipped line ≡ false) × (IsFront (begun read ++ line ∷ []) → ⊥)
+
+-- the bytes as a name, where they are one
+abbrev pub IsNameOf : List ℕ → Option (List ℕ) → Type 0
+IsNameOf bytes None = IsName bytes → ⊥
+IsNameOf bytes (Some name) = IsName name × (bytes ≡ name)
 
 -- the command that stands on a line, where one does
 abbrev pub IsReadingOf : List ℕ → Option Line → Type 0

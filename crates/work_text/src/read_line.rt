@@ -2,7 +2,7 @@
 ghost use Rattle.std.specs.Prelude.{◌≡◌, ◌≢◌, ◌↔◌, ◌++◌, ℕ, List as Bytes, IfOk, IsTrue, MatchOption, codes};
 ghost use Rattle.std.specs.List.{list_all};
 ghost use Rattle.work_text.specs.Work.{IsName, is_name_byte};
-ghost use Rattle.work_text.specs.WorkReading.{IsReadingOf};
+ghost use Rattle.work_text.specs.WorkReading.{IsReadingOf, IsNameOf};
 
 use crate::work::{Command, Line};
 use std::alloc::Global;
@@ -23,15 +23,17 @@ pub fn is_header(line: &[u8]) -> bool
 pub fn line_of(alloc: Global, text: &[u8]) -> Result<Option<Line>, Want>
     ensures { IfOk result (IsReadingOf text.now) }
 {
-    if let Some(name) = behind_load(text) {
-        let Some(name) = name_of(name) else {
+    if let Some(bytes) = behind_load(text) {
+        let Some(name) = name_of(alloc, bytes)? else {
             return Ok(None);
         };
-        let command = Command::Load(Text::of(alloc, name)?);
-        return Ok(Some(Line {
-            session: 1,
-            command,
-        }));
+        return Ok(Some(of_session_1(Command::Load(name))));
+    }
+    if let Some(bytes) = behind_unload(text) {
+        let Some(name) = name_of(alloc, bytes)? else {
+            return Ok(None);
+        };
+        return Ok(Some(of_session_1(Command::Unload(name))));
     }
     let Some(query) = behind_query(text) else {
         return Ok(None);
@@ -39,11 +41,17 @@ pub fn line_of(alloc: Global, text: &[u8]) -> Result<Option<Line>, Want>
     if query.is_empty() {
         return Ok(None);
     }
-    let command = Command::Query(List::of(Vec::from_slice(alloc, query)?));
-    Ok(Some(Line {
+    let query = List::of(Vec::from_slice(alloc, query)?);
+    Ok(Some(of_session_1(Command::Query(query))))
+}
+
+fn of_session_1(command: Command) -> Line
+    ensures { result ≡ record { session = 1; command = command } }
+{
+    Line {
         session: 1,
         command,
-    }))
+    }
 }
 
 fn behind_load(text: &[u8]) -> Option<&[u8]>
@@ -52,6 +60,14 @@ fn behind_load(text: &[u8]) -> Option<&[u8]>
         (λ rest. text.now ≡ codes "1 load " ++ rest.now) }
 {
     text.strip_prefix(b"1 load ".as_slice())
+}
+
+fn behind_unload(text: &[u8]) -> Option<&[u8]>
+    ensures { MatchOption result
+        ((rest : Bytes ℕ) → text.now ≢ codes "1 unload " ++ rest)
+        (λ rest. text.now ≡ codes "1 unload " ++ rest.now) }
+{
+    text.strip_prefix(b"1 unload ".as_slice())
 }
 
 fn behind_query(text: &[u8]) -> Option<&[u8]>
@@ -63,7 +79,16 @@ fn behind_query(text: &[u8]) -> Option<&[u8]>
 }
 
 /// The bytes as a document's name, where they are one.
-fn name_of(bytes: &[u8]) -> Option<&str>
+fn name_of(alloc: Global, bytes: &[u8]) -> Result<Option<Text>, Want>
+    ensures { IfOk result (IsNameOf bytes.now) }
+{
+    match name_in(bytes) {
+        Some(name) => Ok(Some(Text::of(alloc, name)?)),
+        None => Ok(None),
+    }
+}
+
+fn name_in(bytes: &[u8]) -> Option<&str>
     ensures { MatchOption result (¬ IsName bytes.now) (λ name. (name.now ≡ bytes.now) × IsName bytes.now) }
 {
     if !is_name(bytes) {

@@ -7,7 +7,7 @@ use term_core::{List, Text};
 #[derive(Debug, Drop)]
 pub enum Outcome {
     /// A change was committed at this time.
-    Loaded {
+    Changed {
         time: u64,
     },
     /// The solutions of a query over the graph of this time, in the order of their printed lines.
@@ -18,14 +18,26 @@ pub enum Outcome {
     },
     NoDocument,
     DocumentTooLarge,
-    /// A line of the document has a form that is not read today.
-    NotBuilt {
+    /// The line is the first of the document that is outside the grammar.
+    BadLine {
+        line: u32,
+    },
+    /// The line is the first bad one of the document, and has a term whose spelling is over 65,535 bytes.
+    TermTooLong {
+        line: u32,
+    },
+    /// The line is the first bad one of the document, and brings its 100,001st statement.
+    TooManyStatements {
+        line: u32,
+    },
+    /// The line is the first that has a blank node, in a document that was to be removed.
+    LabelInRemoval {
         line: u32,
     },
     /// The query has a form that is not read today.
     QueryNotBuilt,
     /// The query has over 1,000,000 rows at this time.
-    TooMany {
+    TooManyRows {
         time: u64,
     },
 }

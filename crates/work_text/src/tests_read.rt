@@ -19,6 +19,10 @@ fn read(alloc: Global, text: &[u8]) -> Result<String, Fail> {
                 let name = name.text();
                 write!(commands, "{} load {name};", line.session)?;
             }
+            Command::Unload(name) => {
+                let name = name.text();
+                write!(commands, "{} unload {name};", line.session)?;
+            }
             Command::Query(query) => {
                 let query = query.items();
                 write!(commands, "{} query {query:?};", line.session)?;
@@ -30,7 +34,7 @@ fn read(alloc: Global, text: &[u8]) -> Result<String, Fail> {
 
 #[test]
 fn works_are_read(rt: HostRuntime) -> Result<(), Fail> {
-    let cases: [(&[u8], &str); 20] = [
+    let cases: [(&[u8], &str); 22] = [
         (b"bigfed 1", ""),
         (b"", "bad 1"),
         (b"#\n# no work\n", "bad 3"),
@@ -49,6 +53,8 @@ fn works_are_read(rt: HostRuntime) -> Result<(), Fail> {
         (b"bigfed 1\n1 query\n", "bad 2"),
         (b"bigfed 1\n1 query A\xff#\r\n", "1 query [65, 255, 35];"),
         (b"bigfed 1\n1 load _a-B.9", "1 load _a-B.9;"),
+        (b"bigfed 1\n1 unload a.nt\n", "1 unload a.nt;"),
+        (b"bigfed 1\n1 unload .nt\n", "bad 2"),
         (
             b"\n#\r\nbigfed 1\r\n\r\n1 load a.nt\r\n\n1 load ?\n",
             "bad 7",

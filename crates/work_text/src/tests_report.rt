@@ -6,13 +6,13 @@ use std::process::Abort;
 use std::test::Fail;
 use term_core::{List, Term, Text, Want};
 
-/// A line of a session for each, a load where that is said and else a query.
-fn lines(alloc: Global, told: &[(u32, bool)]) -> Result<Work, Want> {
+/// A line of a session for each, with the verb that is said.
+fn lines(alloc: Global, told: &[(u32, &str)]) -> Result<Work, Want> {
     let mut lines = Vec::new(alloc);
-    for (session, loads) in told {
+    for (session, verb) in told {
         lines.push(Line {
             session: *session,
-            command: command(alloc, *loads)?,
+            command: command(alloc, verb)?,
         })?;
     }
     Ok(Work {
@@ -20,9 +20,12 @@ fn lines(alloc: Global, told: &[(u32, bool)]) -> Result<Work, Want> {
     })
 }
 
-fn command(alloc: Global, loads: bool) -> Result<Command, Want> {
-    if loads {
+fn command(alloc: Global, verb: &str) -> Result<Command, Want> {
+    if verb == "load" {
         return Ok(Command::Load(Text::of(alloc, "a.nt")?));
+    }
+    if verb == "unload" {
+        return Ok(Command::Unload(Text::of(alloc, "a.nt")?));
     }
     let text = Vec::from_slice(alloc, b"SELECT * WHERE { ?s ?p ?o }")?;
     Ok(Command::Query(List::of(text)))
@@ -99,18 +102,24 @@ fn nothing_was_done(rt: HostRuntime) -> Result<(), Fail> {
 fn first_outcomes(alloc: Global) -> Result<List<Outcome>, Want> {
     let empty = answered(alloc, 10, &["s", "long_name"], Vec::new(alloc))?;
     let outcomes = vec![in alloc;
-        Outcome::Loaded { time: 10 },
+        Outcome::Changed { time: 10 },
         empty,
         Outcome::NoDocument,
         Outcome::DocumentTooLarge,
-        Outcome::NotBuilt { line: 4294967295 },
+        Outcome::BadLine { line: 4294967295 },
+        Outcome::TermTooLong { line: 2 },
+        Outcome::TooManyStatements { line: 100001 },
+        Outcome::LabelInRemoval { line: 1 },
         Outcome::QueryNotBuilt,
     ]?;
     Ok(List::of(outcomes))
 }
 
 fn third_outcomes(alloc: Global) -> Result<List<Outcome>, Want> {
-    let outcomes = vec![in alloc; Outcome::Loaded { time: 11 }, Outcome::TooMany { time: 11 }]?;
+    let outcomes = vec![in alloc;
+        Outcome::Changed { time: 11 },
+        Outcome::TooManyRows { time: 11 },
+    ]?;
     Ok(List::of(outcomes))
 }
 
@@ -129,19 +138,24 @@ fn each_outcome_is_printed(rt: HostRuntime) -> Result<(), Fail> {
         origins: origins(alloc, &[(1, 1), (3, 1)])?,
     };
     let told = [
-        (1, true),
-        (1, false),
-        (3, true),
-        (1, true),
-        (1, true),
-        (3, false),
-        (1, true),
-        (1, false),
+        (1, "load"),
+        (1, "query"),
+        (3, "unload"),
+        (1, "load"),
+        (1, "load"),
+        (3, "query"),
+        (1, "load"),
+        (1, "load"),
+        (1, "load"),
+        (1, "unload"),
+        (1, "query"),
     ];
     let text = "opened 9\nsession 1\n1 load time 10\n2 query time 10 rows 0\n?s\t?long_name\n\
         3 load refused no document\n4 load refused document too large\n\
-        5 load refused not built line 4294967295\n6 query refused query not built\nsession 3\n\
-        1 load time 11\n2 query refused too many rows time 11\nhistory 2\n10 1 1\n11 3 1\n";
+        5 load refused line 4294967295\n6 load refused term too long line 2\n\
+        7 load refused too many statements line 100001\n8 unload refused label in removal line 1\n\
+        9 query refused query not built\nsession 3\n\
+        1 unload time 11\n2 query refused too many rows time 11\nhistory 2\n10 1 1\n11 3 1\n";
     expect(&rt, &report, &lines(alloc, &told)?, text)?;
     Ok(())
 }
@@ -151,7 +165,7 @@ fn rows_are_printed(rt: HostRuntime) -> Result<(), Fail> {
     let alloc = rt.alloc();
     let row = row(alloc, &["http://e/a", "http://e/p", "http://e/b"])?;
     let answered = answered(alloc, 1, &["s", "p", "o"], vec![in alloc; row]?)?;
-    let outcomes = vec![in alloc; Outcome::Loaded { time: 1 }, answered]?;
+    let outcomes = vec![in alloc; Outcome::Changed { time: 1 }, answered]?;
     let report = RunReport {
         opened: 0,
         outcomes: List::of(vec![in alloc; List::of(outcomes)]?),
@@ -159,6 +173,11 @@ fn rows_are_printed(rt: HostRuntime) -> Result<(), Fail> {
     };
     let text = "opened 0\nsession 1\n1 load time 1\n2 query time 1 rows 1\n?s\t?p\t?o\n\
         <http://e/a>\t<http://e/p>\t<http://e/b>\nhistory 1\n1 1 1\n";
-    expect(&rt, &report, &lines(alloc, &[(1, true), (1, false)])?, text)?;
+    expect(
+        &rt,
+        &report,
+        &lines(alloc, &[(1, "load"), (1, "query")])?,
+        text,
+    )?;
     Ok(())
 }

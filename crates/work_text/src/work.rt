@@ -3,8 +3,10 @@ use term_core::{List, Text};
 
 #[derive(Debug, Drop)]
 pub enum Command {
-    /// Loads the document of this name.
+    /// Puts the triples of the document of this name in.
     Load(Text),
+    /// Takes the triples of the document of this name out.
+    Unload(Text),
     /// Answers the query of this text.
     Query(List<u8>),
 }

@@ -120,6 +120,7 @@ fn verb_of(command: &Command) -> &'static str
 {
     match command {
         Command::Load(_) => "load",
+        Command::Unload(_) => "unload",
         Command::Query(_) => "query",
     }
 }
@@ -128,7 +129,7 @@ fn write_outcome(alloc: Global, outcome: &Outcome, out: &mut Vec<u8>) -> Result<
     ensures { OnOk result (out.new.items ≡ out.old.items ++ outcome_text outcome.now) }
 {
     match outcome {
-        Outcome::Loaded { time } => append(format!(in alloc; "time {time}\n")?.as_str(), out),
+        Outcome::Changed { time } => append(format!(in alloc; "time {time}\n")?.as_str(), out),
         Outcome::Answered {
             time,
             columns,
@@ -136,12 +137,24 @@ fn write_outcome(alloc: Global, outcome: &Outcome, out: &mut Vec<u8>) -> Result<
         } => write_answer(alloc, *time, columns.items(), rows.items(), out),
         Outcome::NoDocument => append("refused no document\n", out),
         Outcome::DocumentTooLarge => append("refused document too large\n", out),
-        Outcome::NotBuilt { line } => append(
-            format!(in alloc; "refused not built line {line}\n")?.as_str(),
+        Outcome::BadLine { line } => append(
+            format!(in alloc; "refused line {line}\n")?.as_str(),
+            out,
+        ),
+        Outcome::TermTooLong { line } => append(
+            format!(in alloc; "refused term too long line {line}\n")?.as_str(),
+            out,
+        ),
+        Outcome::TooManyStatements { line } => append(
+            format!(in alloc; "refused too many statements line {line}\n")?.as_str(),
+            out,
+        ),
+        Outcome::LabelInRemoval { line } => append(
+            format!(in alloc; "refused label in removal line {line}\n")?.as_str(),
             out,
         ),
         Outcome::QueryNotBuilt => append("refused query not built\n", out),
-        Outcome::TooMany { time } => append(
+        Outcome::TooManyRows { time } => append(
             format!(in alloc; "refused too many rows time {time}\n")?.as_str(),
             out,
         ),

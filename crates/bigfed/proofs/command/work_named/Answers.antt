@@ -1,4 +1,4 @@
-use Rattle.std.proofs.Common.{◌≡◌, ◌<◌, ◌≤◌, ℕ, suc, List, [], ◌∷◌, length, get_or, arith, sym, ◌∙◌, string_bytes, codes}
+use Rattle.std.proofs.Common.{◌≡◌, ◌<◌, ◌≤◌, List, [], ◌∷◌, length, get_or, arith, sym, ◌∙◌, string_bytes, codes}
 use Rattle.bigfed.proofs.command.work_named.Goals as goal
 
 -- a list of two

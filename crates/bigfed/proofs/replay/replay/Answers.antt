@@ -1,4 +1,4 @@
-use Rattle.std.proofs.Common.{◌≡◌, ◌<◌, ◌≤◌, ◌∷◌, ◌++◌, [], List, length, arith, sym, ◌∙◌, ap, subst, refl}
+use Rattle.std.proofs.Common.{◌∷◌, ◌++◌, [], List, arith, sym, ◌∙◌, ap, subst, refl}
 use Rattle.work_text.specs.declared.report.Outcome.{Outcome}
 use Rattle.work_text.specs.declared.work.Line.{Line}
 use Rattle.bigfed.specs.Documents.{docs_of}
@@ -39,3 +39,6 @@ returns-clause-legal c =
         origins = c.into_origins.ensures ∙ so_far.stands.origins;
       },
     )
+
+pub run_line-requires-clause-standing : goal.run_line-requires-clause-standing
+run_line-requires-clause-standing c = (c.loop-line.invariant.history, c.loop-line.invariant.stands)

@@ -1,12 +1,13 @@
-use Rattle.std.proofs.Common.{◌≡◌, ◌≤◌, ℕ, List, take}
-use Rattle.bigfed.specs.Documents.{Holds, AreDocsOf}
-use Rattle.bigfed.specs.Program.{IsNamed}
+use Rattle.std.proofs.Common.{◌≡◌, ◌≤◌, [], take}
+use Rattle.bigfed.specs.Documents.{AreGathered}
+use Rattle.bigfed.specs.Program.{with_lines}
 use Rattle.bigfed.proofs.shelf.gather.Given as goal
 
+-- the documents of the lines so far were read, and they are not too large together
 abbrev pub invariant-loop-line : goal.invariant-loop-line
 invariant-loop-line g l = record {
-  held : (name : List ℕ) → IsNamed name (take l.line-index l.lines) → Holds l.docs name;
-  read : AreDocsOf (g.S.Shelf.documents l.fn.shelf) l.docs;
+  gathered : AreGathered (g.S.Shelf.documents l.fn.shelf) l.docs (with_lines [] (take l.line-index l.work.lines)) l.size;
+  small : l.size ≤ 536870912;
   same : g.S.Shelf.documents l.shelf ≡ g.S.Shelf.documents l.fn.shelf;
   later : g.S.Shelf.fault_count l.fn.shelf ≤ g.S.Shelf.fault_count l.shelf;
 }

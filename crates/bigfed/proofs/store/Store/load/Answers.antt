@@ -1,8 +1,21 @@
-use Rattle.bigfed.proofs.Steps.{committed}
+use Rattle.change_model.specs.declared.history.Kind.TheVariants.{Add}
+use Rattle.bigfed.specs.Legal.{IsReadAs}
+use Rattle.bigfed.proofs.Steps.{committed, loaded, refused, not_loaded}
 use Rattle.bigfed.proofs.store.Store.load.Goals as goal
+
+pub returns-in-Err-clause-step : goal.returns-in-Err-clause-step
+returns-in-Err-clause-step c history stands =
+    let cause = rw c.items.ensures at c.in-Err.ensures.fault in
+    rw c.in-Bytes.is (not_loaded c.refusal.result c.args.self.now history c.in-Bytes.bytes c.args.origin
+    (refused c.refusal.result c.args.self.now history c.in-Bytes.bytes c.in-Err.fault stands cause c.refusal.ensures))
 
 pub returns-clause-step : goal.returns-clause-step
 returns-clause-step c history stands =
     let says = rw c.items.ensures at c.in-Ok.ensures.found in
-    rw c.in-Bytes.is (committed c.commit.result c.args.self.now c.commit.new.self history c.in-Bytes.bytes c.in-Ok.document.statements c.args.origin
-    stands says c.commit.ensures.time c.commit.ensures.graph c.commit.ensures.origins)
+    let label = rw c.items.ensures at c.in-Ok.ensures.label in
+    let document = c.in-Ok.document in
+    let read : IsReadAs c.in-Bytes.bytes document.statements document.first_label =
+    record { document = says; within = c.in-Ok.ensures.few; label = label } in
+    rw c.in-Bytes.is (loaded c.commit.result c.commit.new.self history c.in-Bytes.bytes document.statements document.first_label c.args.origin read
+    (committed c.commit.result c.args.self.now c.commit.new.self history Add document.statements c.args.origin stands
+    c.commit.ensures.time (c.commit.ensures.stands history stands)))
