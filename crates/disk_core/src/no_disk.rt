@@ -1,6 +1,6 @@
 //! A device with no files.
-ghost use Rattle.std.specs.Prelude.{◌≡◌, ◌≤◌, None};
-ghost use Rattle.disk_core.specs.Disk.{HasRisen};
+ghost use Rattle.std.specs.Prelude.{◌≡◌, ◌≤◌, None, IsErr};
+ghost use Rattle.disk_core.specs.Disk.{HasRisen, IsCounted};
 
 use crate::disk::{Disk, Failed};
 
@@ -28,35 +28,55 @@ impl NoDisk {
 }
 
 impl Disk for NoDisk {
-    ghost files = { λ _. None };
+    ghost told = { λ _. None };
 
     ghost fault_count = { λ disk. disk.faults };
+
+    ghost sound = { λ _. tt };
 
     fn faults(&self) -> u64 {
         self.faults
     }
 
-    fn length(&mut self, _file: u64) -> Result<u64, Failed> {
+    fn length(&mut self, _file: u64) -> Result<u64, Failed>
+        ensures fails { IsErr result }
+        ensures counted { IsCounted self.old.faults self.new.faults result }
+    {
         Err(self.fail())
     }
 
-    fn greatest(&mut self) -> Result<u64, Failed> {
+    fn greatest(&mut self) -> Result<u64, Failed>
+        ensures fails { IsErr result }
+        ensures counted { IsCounted self.old.faults self.new.faults result }
+    {
         Err(self.fail())
     }
 
-    fn read_at(&mut self, _file: u64, _at: u64, _out: &mut [u8]) -> Result<usize, Failed> {
+    fn read_at(&mut self, _file: u64, _at: u64, _out: &mut [u8]) -> Result<usize, Failed>
+        ensures fails { IsErr result }
+        ensures counted { IsCounted self.old.faults self.new.faults result }
+    {
         Err(self.fail())
     }
 
-    fn write_at(&mut self, _file: u64, _at: u64, _bytes: &[u8]) -> Result<(), Failed> {
+    fn write_at(&mut self, _file: u64, _at: u64, _bytes: &[u8]) -> Result<(), Failed>
+        ensures fails { IsErr result }
+        ensures counted { IsCounted self.old.faults self.new.faults result }
+    {
         Err(self.fail())
     }
 
-    fn sync(&mut self, _file: u64) -> Result<(), Failed> {
+    fn sync(&mut self, _file: u64) -> Result<(), Failed>
+        ensures fails { IsErr result }
+        ensures counted { IsCounted self.old.faults self.new.faults result }
+    {
         Err(self.fail())
     }
 
-    fn remove(&mut self, _file: u64) -> Result<(), Failed> {
+    fn remove(&mut self, _file: u64) -> Result<(), Failed>
+        ensures fails { IsErr result }
+        ensures counted { IsCounted self.old.faults self.new.faults result }
+    {
         Err(self.fail())
     }
 }

@@ -17,9 +17,9 @@ pub fn first_at<W: Window, D: Disk>(
     key: &[u8],
     time: u64,
 ) -> Result<Option<Row>, WindowFault>
-    ensures first { W.stands window.now (D.files disk.old) → IfOk result (IsFirstAt (W.rows window.now) key.now time) }
-    ensures whole { W.stands window.now (D.files disk.old) → IfErr result IsNoDamage }
-    ensures same { D.files disk.new ≡ D.files disk.old }
+    ensures first { W.stands window.now (D.told disk.old) → IfOk result (IsFirstAt (W.rows window.now) key.now time) }
+    ensures whole { W.stands window.now (D.told disk.old) → IfErr result IsNoDamage }
+    ensures same { D.told disk.new ≡ D.told disk.old }
     ensures counted { IsCountedBy (D.fault_count disk.old) (D.fault_count disk.new) result }
 {
     let chunk = window.chunk(alloc, disk, key, 1)?;

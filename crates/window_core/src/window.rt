@@ -1,6 +1,7 @@
 //! What all windows answer, whether they are in memory or in a file.
 ghost use Rattle.std.specs.Prelude.{◌≡◌, ℕ, ◌≤◌, List, Option, IfOk, IfErr};
 ghost use Rattle.fed_bytes.specs.declared.span.Span.{Span};
+ghost use Rattle.disk_core.specs.Moments.{Told};
 ghost use Rattle.window_core.specs.declared.rows.Row.{Row};
 ghost use Rattle.window_core.specs.Rows.{IsLast, IsChunk};
 ghost use Rattle.window_core.specs.Windows.{IsWindow, IsCountedBy, IsNoDamage, IsFound, IsPart};
@@ -15,8 +16,8 @@ use std::alloc::Global;
 pub trait Window {
     ghost rows: { Self → List Row };
 
-    /// What the files of a device must be for the rows to stand on it. A window in memory asks nothing of them.
-    ghost stands: { Self → Option (ℕ → List ℕ) → Type 0 };
+    /// How a device must stand for the rows to stand on it. A window in memory asks nothing of them.
+    ghost stands: { Self → Option Told → Type 0 };
 
     ghost span: { Self → Span };
 
@@ -47,10 +48,10 @@ pub trait Window {
         key: &[u8],
         t: u64,
     ) -> Result<Option<Row>, WindowFault>
-        ensures last { stands self.now (D.files disk.old) → IfOk result (IsLast (rows self.now) key.now t) }
+        ensures last { stands self.now (D.told disk.old) → IfOk result (IsLast (rows self.now) key.now t) }
         ensures found { IfOk result (IsFound (span self.now) (from self.now) (upto self.now) key.now t) }
-        ensures whole { stands self.now (D.files disk.old) → IfErr result IsNoDamage }
-        ensures same { D.files disk.new ≡ D.files disk.old }
+        ensures whole { stands self.now (D.told disk.old) → IfErr result IsNoDamage }
+        ensures same { D.told disk.new ≡ D.told disk.old }
         ensures counted { IsCountedBy (D.fault_count disk.old) (D.fault_count disk.new) result };
 
     /// All rows of the first `most` keys from a key on, and the key behind them.
@@ -62,10 +63,10 @@ pub trait Window {
         most: u32,
     ) -> Result<Chunk, WindowFault>
         requires { 1 ≤ most }
-        ensures chunk { stands self.now (D.files disk.old) → IfOk result (IsChunk (rows self.now) key.now most) }
+        ensures chunk { stands self.now (D.told disk.old) → IfOk result (IsChunk (rows self.now) key.now most) }
         ensures part { IfOk result (IsPart (span self.now) (from self.now) (upto self.now) key.now) }
-        ensures whole { stands self.now (D.files disk.old) → IfErr result IsNoDamage }
-        ensures same { D.files disk.new ≡ D.files disk.old }
+        ensures whole { stands self.now (D.told disk.old) → IfErr result IsNoDamage }
+        ensures same { D.told disk.new ≡ D.told disk.old }
         ensures counted { IsCountedBy (D.fault_count disk.old) (D.fault_count disk.new) result };
 
     /// What is true of each window.
