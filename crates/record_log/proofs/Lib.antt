@@ -1,0 +1,12 @@
+pub mod Bodies
+pub mod Counting
+pub mod Finding
+pub mod Held
+pub mod Images
+pub mod Leaving
+pub mod Mending
+pub mod Moving
+pub mod OneLog
+pub mod Putting
+pub mod Spelled
+pub mod Starting

@@ -1,0 +1,119 @@
+//! Reading a log: gate by gate, with the length behind each, past the bodies.
+ghost use Rattle.std.specs.Prelude.{◌≡◌, ◌+◌, ◌<◌, ℕ, List, length, IfOk, IfErr, IfSome};
+ghost use Rattle.disk_core.specs.Disk.{IsCounted};
+ghost use Rattle.record_log.specs.Gates.{IsOpenAt, IsHead, IsBehind, AreFound};
+ghost use Rattle.record_log.specs.Devices.{Reads};
+ghost use Rattle.record_log.specs.Faults.{IsStartFault, IsCountedBy};
+
+use crate::fault::LogFault;
+use crate::places::{Place, Places};
+use disk_core::{Disk, Failed};
+use std::alloc::Global;
+
+pub const OPEN: u8 = 1;
+
+pub const CLOSED: u8 = 0;
+
+/// The bytes of a gate, and of the length of a body behind it.
+pub const HEAD_SIZE: u64 = 5;
+
+/// What the first bytes from a gate on say.
+#[derive(Drop)]
+enum Head {
+    Closed,
+    /// The size of the body behind the gate.
+    Open { body: u32 },
+    /// The gate is open, and no four bytes stand behind it.
+    Short,
+}
+
+/// The records of a log, and the place of the closed gate behind them.
+#[derive(Drop)]
+pub struct Found {
+    pub places: Places,
+    pub end: u64,
+}
+
+/// Whether the gate at a place is open.
+pub fn is_open_at<D: Disk>(disk: &mut D, file: u64, gate: u64) -> Result<bool, Failed>
+    ensures same { D.told disk.new ≡ D.told disk.old }
+    ensures counted { IsCounted (D.fault_count disk.old) (D.fault_count disk.new) result }
+    ensures gate { IfOk result (IsOpenAt (D.told disk.old) file gate) }
+{
+    let mut byte = [CLOSED];
+    let count = disk.read_at(file, gate, &mut byte)?;
+    if count == 0 {
+        return Ok(false);
+    }
+    Ok(byte[0] == OPEN)
+}
+
+fn head_of(bytes: &[u8]) -> Head
+    requires { 0 < length bytes.now }
+    ensures { IsHead bytes.now result }
+{
+    let Some((gate, behind)) = bytes.split_first() else {
+        return Head::Short;
+    };
+    if *gate != OPEN {
+        return Head::Closed;
+    }
+    let Some(field) = behind.first_chunk::<4>() else {
+        return Head::Short;
+    };
+    Head::Open {
+        body: u32::from_be_bytes(*field),
+    }
+}
+
+/// The size of the body behind an open gate, or `None` at a closed one. The file has `size` bytes.
+fn size_behind<D: Disk>(
+    disk: &mut D,
+    file: u64,
+    gate: u64,
+    size: u64,
+) -> Result<Option<u32>, LogFault>
+    requires { gate < size }
+    ensures same { D.told disk.new ≡ D.told disk.old }
+    ensures counted { IsCountedBy (D.fault_count disk.old) (D.fault_count disk.new) result }
+    ensures within { IfOk result (λ body. IfSome body (λ n. gate + 5 + n < size)) }
+    ensures behind { (bytes : List ℕ) → Reads (D.told disk.old) file bytes → size ≡ length bytes → IsBehind bytes gate result }
+{
+    let mut head = [0; HEAD_SIZE as usize];
+    let count = disk.read_at(file, gate, &mut head)?;
+    if count == 0 {
+        return Err(LogFault::BadRecord { at: gate });
+    }
+    match head_of(&head[..count]) {
+        Head::Closed => Ok(None),
+        Head::Open { body } if size - gate > HEAD_SIZE + u64::from(body) => Ok(Some(body)),
+        _ => Err(LogFault::BadRecord { at: gate }),
+    }
+}
+
+/// Finds the records of a log whose file has `size` bytes. Each gate and each length is read once, and no body.
+pub fn find_records<D: Disk>(
+    alloc: Global,
+    disk: &mut D,
+    file: u64,
+    size: u64,
+) -> Result<Found, LogFault>
+    requires { 1 < size }
+    ensures same { D.told disk.new ≡ D.told disk.old }
+    ensures counted { IsCountedBy (D.fault_count disk.old) (D.fault_count disk.new) result }
+    ensures found { (bytes : List ℕ) → Reads (D.told disk.old) file bytes → size ≡ length bytes → IfOk result (AreFound bytes) }
+    ensures bad { (bytes : List ℕ) → Reads (D.told disk.old) file bytes → size ≡ length bytes → IfErr result (IsStartFault bytes) }
+{
+    let mut places = Places::new(alloc);
+    let mut gate = 0;
+    'gates: loop {
+        let Some(body) = size_behind(disk, file, gate, size)? else {
+            return Ok(Found { places, end: gate });
+        };
+        places.push(Place {
+            start: gate + HEAD_SIZE,
+            size: body,
+        })?;
+        gate += HEAD_SIZE + u64::from(body);
+    }
+}
