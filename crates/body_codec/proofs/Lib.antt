@@ -1,0 +1,10 @@
+mod Agree
+mod Appearances
+mod Changes
+mod Cuts
+mod Elements
+mod Refusals
+mod Seen
+mod Stages
+mod Steps
+mod Turns

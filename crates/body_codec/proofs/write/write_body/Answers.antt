@@ -1,0 +1,21 @@
+use Rattle.std.proofs.Common.{length, ◌∙◌, ap, arith}
+use Rattle.body_codec.proofs.Changes.{few_terms, short_terms, ArePlaced-length}
+use Rattle.body_codec.proofs.write.write_body.Goals as goal
+
+pub overflow_cast-terms : goal.overflow_cast-terms
+overflow_cast-terms c =
+    let low = few_terms c.args.change.now.statements c.requires.few in
+    let long = ap length (c.items-terms.ensures ∙ c.in_ok-vocabulary.ensures.terms) in
+    omega arith
+
+pub put_terms-requires : goal.put_terms-requires
+put_terms-requires c =
+    short_terms c.args.change.now c.items-terms.result.now (c.items-terms.ensures ∙ c.in_ok-vocabulary.ensures.terms) c.requires
+
+pub overflow_cast-places : goal.overflow_cast-places
+overflow_cast-places c =
+    let places = c.in_ok-vocabulary.vocabulary.places in
+    let long = ArePlaced-length c.in_ok-vocabulary.vocabulary.terms c.args.change.now.statements places c.in_ok-vocabulary.ensures.places in
+    let same = ap length c.items-places.ensures in
+    let few = c.requires.few in
+    omega arith

@@ -1,0 +1,213 @@
+ghost use Rattle.std.specs.Prelude.{◌≡◌, ◌<◌, ◌^◌, length, IfOk};
+
+use super::*;
+use change_model::{Change, Kind};
+use std::alloc::Global;
+use std::sync::Arc;
+use std::test::Fail;
+use term_core::{List, Statement, Term, Text, Want};
+
+/// The body of the Add of `<http://e/a> <http://e/p> <http://e/b> .`
+const WORKED: &[u8] =
+    b"\x01\x01\0\0\0\x03\0\0\0\x0b\x01http://e/a\0\0\0\x0b\x01http://e/p\0\0\0\x0b\x01http://e/b\0\0\0\x01\0\0\0\0\0\0\0\x01\0\0\0\x02";
+
+/// The body of the Add of `_:a <e:p> "x"@en . _:a <e:p> "y"^^<e:d> . _:b <e:p> _:a .`
+const KINDS: &[u8] =
+    b"\x01\x01\0\0\0\x05\0\0\0\x0a\x04\0\0\0\0\0\0\0\0a\0\0\0\x04\x01e:p\0\0\0\x08\x03\0\0\0\x01xen\0\0\0\x09\x02\0\0\0\x01ye:d\0\0\0\x0a\x04\0\0\0\0\0\0\0\0b\0\0\0\x03\0\0\0\0\0\0\0\x01\0\0\0\x02\0\0\0\0\0\0\0\x01\0\0\0\x03\0\0\0\x04\0\0\0\x01\0\0\0\0";
+
+/// The body of the Remove of `<e:p> <e:p> <e:p> .`
+const REMOVED: &[u8] = b"\x01\x02\0\0\0\x01\0\0\0\x04\x01e:p\0\0\0\x01\0\0\0\0\0\0\0\0\0\0\0\0";
+
+/// The body read and written again.
+fn written_again(alloc: Global, bytes: &[u8]) -> Result<Vec<u8>, BodyFault>
+    requires { length bytes.now < 2 ^ 32 }
+    ensures { IfOk result (λ made. made.items ≡ bytes.now) }
+{
+    let change = read_body(alloc, bytes)?;
+    Ok(write_body(alloc, &change)?)
+}
+
+/// Whether the bytes are refused at this offset. There is memory.
+fn is_bad_at(alloc: Global, bytes: &[u8], at: u32) -> bool {
+    if bytes.len() > 1000 {
+        return false;
+    }
+    read_body(alloc, bytes).err() == Some(BodyFault::BadBody { at })
+}
+
+/// Whether the bytes are refused at this offset once the byte at the place is another one.
+fn is_bad_with(alloc: Global, bytes: &[u8], place: usize, byte: u8, at: u32) -> Result<bool, Want> {
+    let mut changed = bytes.to_vec(alloc)?;
+    if let Some(there) = changed.get_mut(place) {
+        *there = byte;
+    }
+    Ok(is_bad_at(alloc, &changed, at))
+}
+
+/// Whether so many of the bytes are refused at this offset.
+fn is_bad_cut(alloc: Global, bytes: &[u8], count: usize, at: u32) -> bool {
+    match bytes.split_at_checked(count) {
+        Some((front, _)) => is_bad_at(alloc, front, at),
+        None => false,
+    }
+}
+
+fn iri(alloc: Global, text: &str) -> Result<Term, Want> {
+    Ok(Term::Iri(Text::of(alloc, text)?))
+}
+
+/// How many statements the change of the bytes has.
+fn count(alloc: Global, bytes: &[u8]) -> Option<usize> {
+    if bytes.len() > 1000 {
+        return None;
+    }
+    match read_body(alloc, bytes) {
+        Ok(change) => Some(change.statements.items().len()),
+        Err(_) => None,
+    }
+}
+
+#[test]
+fn the_worked_body_is_that_of_its_change(rt: HostRuntime) -> Result<(), Fail> {
+    assert_eq!(rt; WORKED.len(), 67);
+    let change = read_body(rt.alloc(), WORKED)?;
+    assert_eq!(rt; change.kind, Kind::Add);
+    let [statement] = change.statements.items() else {
+        panic!(&rt; "one statement");
+    };
+    assert!(rt; statement.subject.equals(&iri(rt.alloc(), "http://e/a")?));
+    assert!(rt; statement.predicate.equals(&iri(rt.alloc(), "http://e/p")?));
+    assert!(rt; statement.object.equals(&iri(rt.alloc(), "http://e/b")?));
+    assert_eq!(rt; written_again(rt.alloc(), WORKED)?.as_slice(), WORKED);
+    Ok(())
+}
+
+#[test]
+fn all_kinds_of_terms_are_written_as_they_were_read(rt: HostRuntime) -> Result<(), Fail> {
+    assert_eq!(rt; count(rt.alloc(), KINDS), Some(3));
+    assert_eq!(rt; written_again(rt.alloc(), KINDS)?.as_slice(), KINDS);
+    Ok(())
+}
+
+#[test]
+fn a_remove_is_written_as_it_was_read(rt: HostRuntime) -> Result<(), Fail> {
+    assert_eq!(rt; read_body(rt.alloc(), REMOVED)?.kind, Kind::Remove);
+    assert_eq!(rt; written_again(rt.alloc(), REMOVED)?.as_slice(), REMOVED);
+    Ok(())
+}
+
+#[test]
+fn a_change_may_be_empty(rt: HostRuntime) -> Result<(), Fail> {
+    let empty = b"\x01\x02\0\0\0\0\0\0\0\0".as_slice();
+    assert_eq!(rt; count(rt.alloc(), empty), Some(0));
+    assert_eq!(rt; written_again(rt.alloc(), empty)?.as_slice(), empty);
+    Ok(())
+}
+
+#[test]
+fn a_body_that_ends_early_is_bad_at_the_field_that_is_short(rt: HostRuntime) {
+    assert!(rt; is_bad_cut(rt.alloc(), WORKED, 0, 0));
+    assert!(rt; is_bad_cut(rt.alloc(), WORKED, 1, 1));
+    assert!(rt; is_bad_cut(rt.alloc(), WORKED, 5, 2));
+    assert!(rt; is_bad_cut(rt.alloc(), WORKED, 6, 6));
+    assert!(rt; is_bad_cut(rt.alloc(), WORKED, 9, 6));
+    assert!(rt; is_bad_cut(rt.alloc(), WORKED, 10, 10));
+    assert!(rt; is_bad_cut(rt.alloc(), WORKED, 20, 10));
+    assert!(rt; is_bad_cut(rt.alloc(), WORKED, 24, 21));
+    assert!(rt; is_bad_cut(rt.alloc(), WORKED, 51, 51));
+    assert!(rt; is_bad_cut(rt.alloc(), WORKED, 54, 51));
+    assert!(rt; is_bad_cut(rt.alloc(), WORKED, 55, 55));
+    assert!(rt; is_bad_cut(rt.alloc(), WORKED, 66, 55));
+}
+
+#[test]
+fn a_bad_head_is_named_at_its_offset(rt: HostRuntime) -> Result<(), Fail> {
+    assert!(rt; is_bad_with(rt.alloc(), WORKED, 0, 2, 0)?);
+    assert!(rt; is_bad_with(rt.alloc(), WORKED, 1, 0, 1)?);
+    assert!(rt; is_bad_with(rt.alloc(), WORKED, 1, 3, 1)?);
+    Ok(())
+}
+
+#[test]
+fn a_bad_term_is_named_at_its_spelling(rt: HostRuntime) -> Result<(), Fail> {
+    // No term is spelled so, for its kind and for a space in its IRI.
+    assert!(rt; is_bad_with(rt.alloc(), WORKED, 10, 5, 10)?);
+    assert!(rt; is_bad_with(rt.alloc(), WORKED, 45, b' ', 40)?);
+    // The second term is the first one once more.
+    assert!(rt; is_bad_with(rt.alloc(), WORKED, 35, b'a', 25)?);
+    // A blank node has a time, and one stands in a Remove.
+    assert!(rt; is_bad_with(rt.alloc(), KINDS, 18, 1, 10)?);
+    assert!(rt; is_bad_with(rt.alloc(), KINDS, 1, 2, 10)?);
+    Ok(())
+}
+
+#[test]
+fn a_bad_count_of_statements_is_named_at_its_offset(rt: HostRuntime) -> Result<(), Fail> {
+    // There may be 100,000 statements, so that the second one is short, and no more.
+    let most =
+        b"\x01\x02\0\0\0\x01\0\0\0\x04\x01e:p\0\x01\x86\xa0\0\0\0\0\0\0\0\0\0\0\0\0".as_slice();
+    assert!(rt; is_bad_at(rt.alloc(), most, 30));
+    assert!(rt; is_bad_with(rt.alloc(), most, 17, 0xa1, 14)?);
+    Ok(())
+}
+
+#[test]
+fn a_bad_statement_is_named_at_its_offset(rt: HostRuntime) -> Result<(), Fail> {
+    // A place that isn't below the count of terms.
+    assert!(rt; is_bad_with(rt.alloc(), WORKED, 66, 3, 55)?);
+    // The second term is named first, and the third one before the second.
+    assert!(rt; is_bad_with(rt.alloc(), WORKED, 58, 1, 55)?);
+    assert!(rt; is_bad_with(rt.alloc(), WORKED, 62, 2, 55)?);
+    // In the second statement a literal is the subject, a literal and a blank node are the predicate.
+    assert!(rt; is_bad_with(rt.alloc(), KINDS, 86, 2, 83)?);
+    assert!(rt; is_bad_with(rt.alloc(), KINDS, 90, 2, 83)?);
+    assert!(rt; is_bad_with(rt.alloc(), KINDS, 90, 0, 83)?);
+    Ok(())
+}
+
+#[test]
+fn a_term_that_is_never_used_is_a_fault_of_the_count_of_statements(
+    rt: HostRuntime,
+) -> Result<(), Fail> {
+    assert!(rt; is_bad_with(rt.alloc(), WORKED, 66, 1, 51)?);
+    Ok(())
+}
+
+#[test]
+fn a_byte_too_many_is_named_at_its_offset(rt: HostRuntime) -> Result<(), Fail> {
+    let mut longer = WORKED.to_vec(rt.alloc())?;
+    longer.push(0)?;
+    assert!(rt; is_bad_at(rt.alloc(), &longer, 67));
+    // A term that is never used comes before it.
+    assert!(rt; is_bad_with(rt.alloc(), &longer, 66, 1, 51)?);
+    Ok(())
+}
+
+#[test]
+fn faults_are_printed(rt: HostRuntime) -> Result<(), Fail> {
+    let bad = BodyFault::BadBody { at: 10 };
+    assert_eq!(rt;
+        format!(in rt.alloc(); "{bad}")?.as_str(),
+        "no body of a change: the field at byte 10 breaks its rule"
+    );
+    let want = BodyFault::from(Want::NoMemory);
+    assert_eq!(rt; format!(in rt.alloc(); "{want}")?.as_str(), "no memory");
+    Ok(())
+}
+
+#[test]
+fn those_who_wait_for_a_body_share_its_bytes(rt: HostRuntime) -> Result<(), Fail> {
+    let body = Arc::new(rt.alloc(), List::of(WORKED.to_vec(rt.alloc())?))?;
+    let ticket = Ticket {
+        home: 1,
+        serial: 1,
+        body: Arc::try_clone(&body)?,
+    };
+    let receipt = Receipt {
+        home: ticket.home,
+        body: 1,
+        spelling: body,
+    };
+    assert_eq!(rt; receipt.spelling.items(), ticket.body.items());
+    Ok(())
+}
