@@ -26,24 +26,43 @@ pub fn rows_of(
     ensures projected { IfOk result (IsPermutation (map (row_of query.now) found.now.keys)) }
     ensures sorted { IfOk result (IsSortedByKey (λ row. line_of row.cells) (slice_cmp nat_cmp)) }
 {
-    let mut printed = printed_rows(alloc, query, found)?;
+    let rows = selected_rows(alloc, query, found)?;
+    in_order(alloc, rows)
+}
+
+/// The rows, in the order of the assignments.
+fn selected_rows(
+    alloc: Global,
+    query: &Query,
+    found: &BTreeSet<Assignment>,
+) -> Result<Vec<Solution>, Want>
+    ensures distinct { OnOk result (AreDistinct found.now.keys) }
+    ensures rows { IfOk result (λ rows. rows.items ≡ map (row_of query.now) found.now.keys) }
+{
+    let mut rows = Vec::new(alloc);
+    'rows: for assignment in found {
+        rows.push(row_of(alloc, query, assignment)?)?;
+    }
+    Ok(rows)
+}
+
+/// Solutions in the order of their printed lines.
+pub fn in_order(alloc: Global, rows: Vec<Solution>) -> Result<List<Solution>, Want>
+    ensures permuted { IfOk result (IsPermutation rows.items) }
+    ensures sorted { IfOk result (IsSortedByKey (λ row. line_of row.cells) (slice_cmp nat_cmp)) }
+{
+    let mut printed = with_lines(alloc, rows)?;
     printed.sort_by(|a, b| a.line().cmp(b.line()))?;
     let rows = without_lines(alloc, printed)?;
     Ok(List::of(rows))
 }
 
-/// The rows, each beside its line, in the order of the assignments.
-fn printed_rows(
-    alloc: Global,
-    query: &Query,
-    found: &BTreeSet<Assignment>,
-) -> Result<Vec<Printed>, Want>
-    ensures distinct { OnOk result (AreDistinct found.now.keys) }
-    ensures rows { IfOk result (λ made. map (λ p. p.row) made.items ≡ map (row_of query.now) found.now.keys) }
+/// The rows, each beside its line.
+fn with_lines(alloc: Global, rows: Vec<Solution>) -> Result<Vec<Printed>, Want>
+    ensures { IfOk result (λ made. map (λ p. p.row) made.items ≡ rows.items) }
 {
     let mut made = Vec::new(alloc);
-    'rows: for assignment in found {
-        let row = row_of(alloc, query, assignment)?;
+    'rows: for row in rows {
         made.push(Printed::of(alloc, row)?)?;
     }
     Ok(made)

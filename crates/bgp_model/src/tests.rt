@@ -8,19 +8,32 @@ use std::alloc::Global;
 use std::test::Fail;
 use term_core::{List, Statement, Term, Text, Want};
 
+/// Four statements, of which the third says what the first does.
+const REPEATED: &[[&str; 3]] = &[
+    ["e:a", "e:p", "e:b"],
+    ["e:c", "e:q", "e:c"],
+    ["e:a", "e:p", "e:b"],
+    ["e:a", "e:p", "e:c"],
+];
+
+/// Two statements with the same subject and predicate.
+const TWO: &[[&str; 3]] = &[["e:a", "e:p", "e:b"], ["e:a", "e:p", "e:c"]];
+
+/// A ring of three, and one short cut.
+const RING: &[[&str; 3]] = &[
+    ["e:a", "e:p", "e:b"],
+    ["e:b", "e:p", "e:c"],
+    ["e:c", "e:p", "e:a"],
+    ["e:a", "e:q", "e:c"],
+];
+
 fn iri(alloc: Global, text: &str) -> Result<Term, Want> {
     Ok(Term::Iri(Text::of(alloc, text)?))
 }
 
-/// Four statements, of which the third says what the first does.
-fn graph(alloc: Global) -> Result<List<Statement>, Want> {
+fn graph(alloc: Global, triples: &[[&str; 3]]) -> Result<List<Statement>, Want> {
     let mut statements = Vec::new(alloc);
-    for [subject, predicate, object] in [
-        ["e:a", "e:p", "e:b"],
-        ["e:c", "e:q", "e:c"],
-        ["e:a", "e:p", "e:b"],
-        ["e:a", "e:p", "e:c"],
-    ] {
+    for [subject, predicate, object] in triples {
         statements.push(Statement {
             subject: iri(alloc, subject)?,
             predicate: iri(alloc, predicate)?,
@@ -44,33 +57,60 @@ fn slot(alloc: Global, text: &str) -> Result<Slot, Want>
     }
 }
 
-fn query(alloc: Global, pattern: [&str; 3], columns: List<u32>) -> Result<Query, Want>
-    requires { AllByRecursion (λ column. column < 3) columns }
-    ensures one { IfOk result (λ made. length made.patterns ≡ 1) }
-    ensures places { IfOk result HasPlaces }
+fn patterns(alloc: Global, texts: &[[&str; 3]]) -> Result<List<Pattern>, Want>
+    ensures { IfOk result (λ made. (query : Asked) → length query.names ≡ 3 → query.labels ≡ 2
+        → AllByRecursion (λ pattern. IsPlaced query pattern.subject × IsPlaced query pattern.predicate × IsPlaced query pattern.object) made) }
+{
+    let mut made = Vec::new(alloc);
+    'patterns: for [subject, predicate, object] in texts {
+        made.push(Pattern {
+            subject: slot(alloc, subject)?,
+            predicate: slot(alloc, predicate)?,
+            object: slot(alloc, object)?,
+        })?;
+    }
+    Ok(List::of(made))
+}
+
+/// The columns of these letters.
+fn columns(alloc: Global, names: &str) -> Result<List<u32>, Want>
+    ensures { IfOk result (λ made. AllByRecursion (λ column. column < 3) made) }
+{
+    match names {
+        "xyz" => Ok(List::of(vec![in alloc; 0, 1, 2]?)),
+        "yy" => Ok(List::of(vec![in alloc; 1, 1]?)),
+        "y" => Ok(List::of(vec![in alloc; 1]?)),
+        "z" => Ok(List::of(vec![in alloc; 2]?)),
+        _ => Ok(List::of(Vec::new(alloc))),
+    }
+}
+
+fn query(alloc: Global, selected: &str, texts: &[[&str; 3]]) -> Result<Query, Want>
+    ensures { IfOk result HasPlaces }
 {
     let x = Text::of(alloc, "x")?;
     let y = Text::of(alloc, "y")?;
     let z = Text::of(alloc, "z")?;
-    let pattern = Pattern {
-        subject: slot(alloc, pattern[0])?,
-        predicate: slot(alloc, pattern[1])?,
-        object: slot(alloc, pattern[2])?,
-    };
+    let names = List::of(vec![in alloc; x, y, z]?);
+    let patterns = patterns(alloc, texts)?;
+    let columns = columns(alloc, selected)?;
     Ok(Query {
-        names: List::of(vec![in alloc; x, y, z]?),
+        names,
         labels: 2,
-        patterns: List::of(vec![in alloc; pattern]?),
+        patterns,
         columns,
     })
 }
 
-/// The lines of the rows.
-fn printed(alloc: Global, query: &Query, most: u32) -> Result<Vec<u8>, Fail>
-    requires one { length query.now.patterns ≡ 1 }
-    requires places { HasPlaces query.now }
-{
-    let rows = solve_plainly(alloc, &graph(alloc)?, query, most)?;
+/// The lines of the rows that are selected.
+fn printed(
+    alloc: Global,
+    triples: &[[&str; 3]],
+    selected: &str,
+    texts: &[[&str; 3]],
+) -> Result<Vec<u8>, Fail> {
+    let query = query(alloc, selected, texts)?;
+    let rows = solve_plainly(alloc, &graph(alloc, triples)?, &query, 3)?;
     let mut text = Vec::new(alloc);
     for row in rows.items() {
         row_line(alloc, row, &mut text)?;
@@ -79,39 +119,130 @@ fn printed(alloc: Global, query: &Query, most: u32) -> Result<Vec<u8>, Fail>
     Ok(text)
 }
 
+/// Whether these are the lines of the rows that are selected.
+fn prints(
+    alloc: Global,
+    triples: &[[&str; 3]],
+    selected: &str,
+    texts: &[[&str; 3]],
+    lines: &str,
+) -> Result<bool, Fail> {
+    let text = printed(alloc, triples, selected, texts)?;
+    Ok(text.as_slice() == lines.as_bytes())
+}
+
+/// Whether one pattern over the statements with a repetition prints these lines.
+fn one_prints(alloc: Global, pattern: [&str; 3], lines: &str) -> Result<bool, Fail> {
+    prints(alloc, REPEATED, "xyz", &[pattern], lines)
+}
+
 #[test]
-fn patterns_have_the_rows_of_the_substitution(rt: HostRuntime) -> Result<(), Fail> {
+fn one_pattern_has_the_rows_of_the_substitution(rt: HostRuntime) -> Result<(), Fail> {
     let alloc = rt.alloc();
-    let cases: [([&str; 3], &str); 7] = [
-        (
-            ["?x", "?y", "?z"],
-            "<e:a>\t<e:p>\t<e:b>\n<e:a>\t<e:p>\t<e:c>\n<e:c>\t<e:q>\t<e:c>\n",
-        ),
-        (["_:a", "?y", "_:b"], "\t<e:p>\t\n\t<e:p>\t\n\t<e:q>\t\n"),
-        (["?x", "?y", "?x"], "<e:c>\t<e:q>\t\n"),
-        (["_:a", "?y", "_:a"], "\t<e:q>\t\n"),
-        (["e:a", "?y", "?z"], "\t<e:p>\t<e:b>\n\t<e:p>\t<e:c>\n"),
-        (["e:a", "e:p", "e:b"], "\t\t\n"),
-        (["e:a", "e:p", "e:d"], ""),
+    let all = "<e:a>\t<e:p>\t<e:b>\n<e:a>\t<e:p>\t<e:c>\n<e:c>\t<e:q>\t<e:c>\n";
+    assert!(rt; one_prints(alloc, ["?x", "?y", "?z"], all)?);
+    let predicates = "\t<e:p>\t\n\t<e:p>\t\n\t<e:q>\t\n";
+    assert!(rt; one_prints(alloc, ["_:a", "?y", "_:b"], predicates)?);
+    assert!(rt;
+        one_prints(
+            alloc,
+            ["e:a", "?y", "?z"],
+            "\t<e:p>\t<e:b>\n\t<e:p>\t<e:c>\n"
+        )?
+    );
+    assert!(rt; one_prints(alloc, ["e:a", "e:p", "e:b"], "\t\t\n")?);
+    assert!(rt; one_prints(alloc, ["e:a", "e:p", "e:d"], "")?);
+    Ok(())
+}
+
+#[test]
+fn a_repeated_variable_stands_for_one_term(rt: HostRuntime) -> Result<(), Fail> {
+    let alloc = rt.alloc();
+    assert!(rt; one_prints(alloc, ["?x", "?y", "?x"], "<e:c>\t<e:q>\t\n")?);
+    assert!(rt; one_prints(alloc, ["_:a", "?y", "_:a"], "\t<e:q>\t\n")?);
+    Ok(())
+}
+
+#[test]
+fn equal_rows_stand_as_often_as_they_come(rt: HostRuntime) -> Result<(), Fail> {
+    let alloc = rt.alloc();
+    assert!(rt; prints(alloc, TWO, "y", &[["_:a", "?y", "_:b"]], "<e:p>\n<e:p>\n")?);
+    Ok(())
+}
+
+#[test]
+fn a_pattern_that_is_written_twice_counts_once(rt: HostRuntime) -> Result<(), Fail> {
+    let alloc = rt.alloc();
+    let twice = [["?x", "?y", "?z"], ["?x", "?y", "?z"]];
+    assert!(rt; prints(alloc, TWO, "z", &twice, "<e:b>\n<e:c>\n")?);
+    Ok(())
+}
+
+#[test]
+fn no_patterns_have_one_row(rt: HostRuntime) -> Result<(), Fail> {
+    let alloc = rt.alloc();
+    assert!(rt; prints(alloc, TWO, "xyz", &[], "\t\t\n")?);
+    assert!(rt; prints(alloc, &[], "", &[], "\n")?);
+    Ok(())
+}
+
+#[test]
+fn patterns_join_on_what_they_share(rt: HostRuntime) -> Result<(), Fail> {
+    let alloc = rt.alloc();
+    let chain = [
+        ["?x", "e:p", "?y"],
+        ["?y", "e:p", "?z"],
+        ["?x", "e:q", "?z"],
     ];
-    for (pattern, rows) in cases {
-        let columns = List::of(vec![in alloc; 0, 1, 2]?);
-        let query = query(alloc, pattern, columns)?;
-        let text = printed(alloc, &query, 3)?;
-        assert_eq!(rt; text.as_slice(), rows.as_bytes(), "at {pattern:?}");
-    }
+    assert!(rt; prints(alloc, RING, "xyz", &chain, "<e:a>\t<e:b>\t<e:c>\n")?);
+    let triangle = [
+        ["?x", "e:p", "?y"],
+        ["?y", "e:p", "?z"],
+        ["?z", "e:p", "?x"],
+    ];
+    let turns = "<e:a>\t<e:b>\t<e:c>\n<e:b>\t<e:c>\t<e:a>\n<e:c>\t<e:a>\t<e:b>\n";
+    assert!(rt; prints(alloc, RING, "xyz", &triangle, turns)?);
+    let back = [["?x", "e:p", "?y"], ["?y", "e:q", "?x"]];
+    assert!(rt; prints(alloc, RING, "xyz", &back, "<e:c>\t<e:a>\t\n")?);
+    let none = [["?x", "e:q", "?y"], ["?y", "e:q", "?z"]];
+    assert!(rt; prints(alloc, RING, "xyz", &none, "")?);
     Ok(())
 }
 
 #[test]
 fn more_rows_than_the_most_are_refused(rt: HostRuntime) -> Result<(), Fail> {
     let alloc = rt.alloc();
-    let columns = List::of(vec![in alloc; 1, 1]?);
-    let query = query(alloc, ["?x", "?y", "?z"], columns)?;
-    let text = printed(alloc, &query, 3)?;
-    let rows = b"<e:p>\t<e:p>\n<e:p>\t<e:p>\n<e:q>\t<e:q>\n";
-    assert_eq!(rt; text.as_slice(), rows.as_slice());
-    let fault = solve_plainly(alloc, &graph(alloc)?, &query, 2).err();
+    let all = [["?x", "?y", "?z"]];
+    assert!(rt;
+        prints(
+            alloc,
+            REPEATED,
+            "yy",
+            &all,
+            "<e:p>\t<e:p>\n<e:p>\t<e:p>\n<e:q>\t<e:q>\n"
+        )?
+    );
+    let query = query(alloc, "yy", &all)?;
+    let fault = solve_plainly(alloc, &graph(alloc, REPEATED)?, &query, 2).err();
     assert_eq!(rt; fault, Some(BgpFault::TooMany));
+    Ok(())
+}
+
+#[test]
+fn terms_of_a_query_stand_where_they_first_stand(rt: HostRuntime) -> Result<(), Fail> {
+    let alloc = rt.alloc();
+    let texts = [
+        ["e:b", "e:a", "?x"],
+        ["_:a", "e:a", "e:c"],
+        ["e:c", "?y", "e:b"],
+    ];
+    let terms = query_terms(alloc, &query(alloc, "", &texts)?)?;
+    let [first, second, third] = terms.items() else {
+        assert!(rt; false, "three terms");
+        return Ok(());
+    };
+    assert!(rt; first.equals(&iri(alloc, "e:b")?));
+    assert!(rt; second.equals(&iri(alloc, "e:a")?));
+    assert!(rt; third.equals(&iri(alloc, "e:c")?));
     Ok(())
 }

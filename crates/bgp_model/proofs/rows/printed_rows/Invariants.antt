@@ -1,6 +1,0 @@
-use Rattle.std.proofs.Common.{◌≡◌, map}
-use Rattle.bgp_model.specs.Solutions.{row_of}
-use Rattle.bgp_model.proofs.rows.printed_rows.Given as goal
-
-abbrev pub invariant-rows : goal.invariant-rows
-invariant-rows l = map (λ p. p.row) l.made.items ≡ map (λ assignment. row_of l.query assignment.now) l.yielded
