@@ -1,0 +1,14 @@
+pub mod Ahead
+pub mod Building
+pub mod Characters
+pub mod Grammar
+pub mod Meaning
+pub mod Outcomes
+pub mod Parsing
+pub mod Reading
+pub mod Refusals
+pub mod Saying
+pub mod Scanning
+pub mod Texts
+pub mod Tokens
+pub mod Values

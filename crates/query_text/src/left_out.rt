@@ -1,0 +1,42 @@
+//! Which word of SPARQL that is left out a token stands for.
+ghost use Rattle.std.specs.Prelude.{◌↔◌, IsTrue};
+ghost use Rattle.query_text.specs.Reading.{token_of};
+ghost use Rattle.query_text.specs.Refusals.{IsLeftOut, StandsFor, IsWritten, kind_of, printed};
+
+use crate::kind::TokenKind;
+use crate::spelling::{is_keyword, is_text};
+use crate::token::Token;
+use crate::word::{WORDS, Word};
+
+/// The word that the token stands for, if there is one.
+pub fn left_out(token: &Token) -> Option<Word>
+    ensures { IsLeftOut (token_of token.now) result }
+{
+    'words: for word in &WORDS {
+        if stands_for(token, *word) {
+            return Some(*word);
+        }
+    }
+    None
+}
+
+fn stands_for(token: &Token, word: Word) -> bool
+    ensures { IsTrue result ↔ StandsFor (token_of token.now) word }
+{
+    if token.kind != word.kind() {
+        return false;
+    }
+    is_written(word, token.characters)
+}
+
+/// Whether a token of the word's kind with these characters stands for it.
+fn is_written(word: Word, characters: &[char]) -> bool
+    ensures { IsTrue result ↔ IsWritten (kind_of word) (printed word) characters.now }
+{
+    let text = word.text().as_bytes();
+    match word.kind() {
+        TokenKind::Word => is_keyword(characters, text),
+        TokenKind::Symbol => is_text(characters, text),
+        _ => true,
+    }
+}
