@@ -17,6 +17,7 @@ use Rattle.window_core.specs.Windows.{IsOnward}
 use Rattle.window_core.proofs.Lists.{of_each, in_front, in_one}
 use Rattle.window_core.proofs.Order.{up_to_later, before_is_up_to, not_before_itself}
 use Rattle.window_core.proofs.Found.{front_in_order, front_before}
+use Rattle.pattern_core.proofs.Members.{AllPairs}
 use Rattle.bigfed.specs.Indexed.{HasValue, IsShownIn}
 use Rattle.bigfed.specs.Shown.{GoesOn, same_key, firsts}
 
@@ -55,6 +56,10 @@ some_row rows count (keys, are, long) h =
     let (row, stands, is) = (are.1 key).0 there in (row, stands)
 
 -- ---- the first row of each key is its newest
+
+-- the first row's key comes before the other's
+abbrev pub ByKey : Row → Row → Type 0
+ByKey row other = IsBefore row.key other.key
 
 -- the row is the newest of its key
 pub record IsNewestIn (rows : List Row) (row : Row) : Type 0 where
@@ -146,6 +151,30 @@ firsts_from first (row ∷ rows) order one =
 pub firsts_are : (rows : List Row) → StandInOrder rows → (one : Row) → Has (firsts rows) one ↔ IsNewestIn rows one
 firsts_are [] order one = (λ h. absurd h, λ new. new.stands)
 firsts_are (row ∷ rows) order one = firsts_from row rows order one
+
+-- the first rows of their keys stand by key, each key once
+pairs_by : (t : Bool) (first row : Row) (rows : List Row) → same_key row first ≡ t → StandInOrder (first ∷ row ∷ rows)
+    → AllPairs ByKey (dedup_from same_key first rows) → AllPairs ByKey (dedup_from same_key row rows)
+    → AllPairs ByKey (cond t (dedup_from same_key first rows) (first ∷ dedup_from same_key row rows))
+pairs_by true first row rows tested order with_first with_row = with_first
+pairs_by false first row rows tested order with_first with_row =
+    let apart : row.key ≡ first.key → ⊥ = λ same. let t : true ≡ false = sym ((bytes_decides row.key first.key).1 same) ∙ tested in cc in
+    let before : IsBefore first.key row.key = elim (order.0.0) [ inl b ↦ b | inr same ↦ absurd (apart (sym same.0)) ] in (
+      λ other there. elim ((firsts_from row rows order.1 other).0 there).stands [
+        | inl same ↦ subst (λ (r : Row). IsBefore first.key r.key) same before
+        | inr more ↦ before_up_to first.key row.key other.key before (up_to_later row other (of_each (ComesBefore row) rows order.1.0 other more))
+      ],
+      with_row,
+    )
+
+pairs_from : (first : Row) (rows : List Row) → StandInOrder (first ∷ rows) → AllPairs ByKey (dedup_from same_key first rows)
+pairs_from first [] order = (λ other there. absurd there, tt)
+pairs_from first (row ∷ rows) order =
+    pairs_by (same_key row first) first row rows refl order (pairs_from first rows (order.0.1, order.1.1)) (pairs_from row rows order.1)
+
+pub firsts_by_key : (rows : List Row) → StandInOrder rows → AllPairs ByKey (firsts rows)
+firsts_by_key [] order = tt
+firsts_by_key (row ∷ rows) order = pairs_from row rows order
 
 -- ---- what a chunk has
 
@@ -254,6 +283,14 @@ chunk_shown rows order span key0 most chunk found more so_far is onward kept ids
         | inr up ↦ inr (record { ids_are = shown.ids_are; within = shown.within; value = values.1 (shown.value, up, before) })
       ]),
     )
+
+-- what was found before the chunk isn't in it
+pub not_in_chunk : (rows : List Row) (order : Order) (span : Span) (key0 : List ℕ) (most : ℕ) (chunk : Chunk) (found : List Ids)
+    → AreShown rows order span (Some key0) found → IsChunk rows key0 most chunk
+    → (ids : Ids) → Has found ids → ¬ IsShownIn chunk.rows order span ids
+not_in_chunk rows order span key0 most chunk found so_far is ids has shown =
+    let there = (is.from.1 shown.value.row).0 (in_front chunk.rows is.rest shown.value.row shown.value.stands) in
+    before_not (key_bytes order ids) key0 ((so_far ids).0 has).1 (subst (IsUpTo key0) shown.value.key_is there.1)
 
 -- a next key that isn't in the span ends it
 goes_on : (rows : List Row) (order : Order) (span : Span) (key0 : List ℕ) (next goes : Option (List ℕ)) (found : List Ids)

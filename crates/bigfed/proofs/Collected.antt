@@ -1,9 +1,7 @@
 -- What a loop collects.
-use Rattle.std.proofs.Common.{◌≡◌, ℕ, ◌<◌, ◌≤◌, ◌+◌, List, [], ◌∷◌, ◌++◌, length, take, get_or, Option, Some, None, ◌⊎◌, inl, inr, ◌↔◌, refl, sym, ◌∙◌, ap, subst}
-use Rattle.std.specs.Option.{option_to_list}
+use Rattle.std.proofs.Common.{◌≡◌, ℕ, zero, suc, ◌<◌, ◌≤◌, ◌+◌, List, [], ◌∷◌, ◌++◌, length, take, get_or, Some, ◌⊎◌, inl, inr, ◌↔◌, refl, sym, ◌∙◌, ap, subst, arith}
 use Rattle.std.proofs.lemmas.List.{take_more, take_all}
-use Rattle.term_core.specs.declared.statement.Statement.{Statement}
-use Rattle.term_core.specs.Lists.{Has}
+use Rattle.term_core.specs.Lists.{Has, AreDistinct}
 use Rattle.fed_bytes.specs.declared.span.Span.{Span}
 use Rattle.fed_bytes.specs.Keys.{IsIn}
 use Rattle.triple_keys.specs.declared.key.Ids.{Ids}
@@ -11,14 +9,14 @@ use Rattle.triple_keys.specs.declared.order.Order.{Order}
 use Rattle.triple_keys.specs.Keys.{AreIds, key_bytes}
 use Rattle.window_core.specs.declared.rows.Row.{Row}
 use Rattle.window_core.specs.Rows.{StandInOrder}
-use Rattle.change_model.specs.History.{History}
-use Rattle.change_model.specs.Lexicon.{HaveIds}
 use Rattle.change_model.specs.Laws.{IsValue}
-use Rattle.bigfed.specs.Indexed.{IsShownIn, IsStatementOf}
+use Rattle.bigfed.specs.Indexed.{IsShownIn}
 use Rattle.bigfed.specs.Shown.{IsKept, firsts}
-use Rattle.bigfed.proofs.Chunks.{firsts_are}
-use Rattle.change_model.proofs.Lexicons.{HaveIds-one_statement}
-use Rattle.change_model.proofs.Members.{Has-append}
+use Rattle.bigfed.proofs.Chunks.{firsts_are, ByKey, firsts_by_key}
+use Rattle.pattern_core.proofs.Members.{AllPairs}
+use Rattle.fed_bytes.specs.Keys.{IsBefore}
+use Rattle.window_core.proofs.Order.{not_before_itself}
+use Rattle.change_model.proofs.Members.{Has-append, AreDistinct-push}
 
 -- what stood there, and what the elements that are done have brought
 abbrev pub Collected : {A B : Type 0} → (A → B → Type 0) → List A → List B → List B → Type 0
@@ -53,14 +51,13 @@ turned_one R all i a start out new below is so_far step =
     subst (λ done. Collected R done start new) (sym (take_more all i a below ∙ ap (λ x. take i all ++ x ∷ []) (sym is)))
     (one_more R (take i all) a start out new so_far step)
 
--- the same of a plain element
-pub turned_at : {A B : Type 0} (R : A → B → Type 0) (all : List A) (i : ℕ) (d : A) (start out new : List B) → i < length all
-    → Collected R (take i all) start out → ((b : B) → Has new b ↔ (Has out b ⊎ R (get_or all i d) b)) → Collected R (take (i + 1) all) start new
-turned_at R all i d start out new below so_far step =
-    subst (λ done. Collected R done start new) (sym (take_more all i d below)) (one_more R (take i all) (get_or all i d) start out new so_far step)
-
 pub all_done : {A B : Type 0} (R : A → B → Type 0) (all : List A) (i : ℕ) (start out : List B) → length all ≤ i → Collected R (take i all) start out → Collected R all start out
 all_done R all i start out past so_far = subst (λ done. Collected R done start out) (take_all i all past) so_far
+
+at_read : {A : Type 0} (xs : List A) (i : ℕ) (x : A) → i < length xs → x ≡ get_or xs i x → Has xs x
+at_read [] i x below is = absurd (omega arith)
+at_read (first ∷ xs) zero x below is = inl (sym is)
+at_read (first ∷ xs) (suc i) x below is = inr (at_read xs i x (omega arith) is)
 
 -- ---- ids of rows
 
@@ -81,25 +78,34 @@ kept_one order span row old new one is small within spelled again value ids =
       ])),
     )
 
+-- a row that is kept shows its ids, if it is the first of its key
+shown_one : (order : Order) (span : Span) (rows : List Row) (row : Row) (ids : Ids) → StandInOrder rows → Has (firsts rows) row → IsKept order span row ids
+    → IsShownIn rows order span ids
+shown_one order span rows row ids in_order there kept =
+    let newest = (firsts_are rows in_order row).0 there in
+    record {
+      ids_are = kept.ids_are;
+      within = subst (IsIn span) kept.key_is kept.within;
+      value = record {
+        row = row;
+        stands = newest.stands;
+        key_is = kept.key_is;
+        newest = λ other stands same. newest.newest other stands (same ∙ sym kept.key_is);
+        value = kept.value;
+      };
+    }
+
+-- ids that weren't there leave nothing twice
+pub kept_once : (old new : List Ids) (one : Ids) → new ≡ old ++ one ∷ [] → AreDistinct old → (Has old one → ⊥) → AreDistinct new
+kept_once old new one is distinct apart = subst AreDistinct (sym is) (AreDistinct-push old one distinct apart)
+
 -- of rows in order the first ones of their keys are those that show ids
 pub kept_all : (rows : List Row) (order : Order) (span : Span) (start found : List Ids) → StandInOrder rows → Collected (IsKept order span) (firsts rows) start found
     → (ids : Ids) → Has found ids ↔ (Has start ids ⊎ IsShownIn rows order span ids)
 kept_all rows order span start found in_order collected ids = (
   λ h. elim ((collected ids).0 h) [
     | inl was ↦ inl was
-    | inr more ↦ let newest = (firsts_are rows in_order more.0).0 more.1 in
-        let kept = more.2 in
-        inr (record {
-          ids_are = kept.ids_are;
-          within = subst (IsIn span) kept.key_is kept.within;
-          value = record {
-            row = more.0;
-            stands = newest.stands;
-            key_is = kept.key_is;
-            newest = λ other there same. newest.newest other there (same ∙ sym kept.key_is);
-            value = kept.value;
-          };
-        })
+    | inr more ↦ inr (shown_one order span rows more.0 ids in_order more.1 more.2)
   ],
   λ h. (collected ids).1 (elim h [
     | inl was ↦ inl was
@@ -111,36 +117,26 @@ kept_all rows order span start found in_order collected ids = (
   ]),
 )
 
--- ---- statements of ids
+-- the rows that are done have other keys than the next
+pairs_take : {A : Type 0} (R : A → A → Type 0) (xs : List A) (i : ℕ) (x y : A) → AllPairs R xs → i < length xs → x ≡ get_or xs i x → Has (take i xs) y → R y x
+pairs_take R [] i x y pairs below is has = absurd (omega arith)
+pairs_take R (first ∷ xs) zero x y pairs below is has = absurd has
+pairs_take {A} R (first ∷ xs) (suc i) x y pairs below is has =
+    elim has [
+      | inl same ↦ subst (λ (z : A). R z x) same (pairs.0 x (at_read xs i x (omega arith) is))
+      | inr later ↦ pairs_take R xs i x y pairs.1 (omega arith) is later
+    ]
 
-abbrev pub Says : History → Ids → Statement → Type 0
-Says history ids statement = HaveIds history (length history) statement ids
-
--- the statement of ids, if there is one, is put behind the others
-pub stated_one : (history : History) (ids : Ids) (stated : Option Statement) (old new : List Statement) → IsStatementOf history ids stated
-    → new ≡ old ++ option_to_list stated → (statement : Statement) → Has new statement ↔ (Has old statement ⊎ Says history ids statement)
-stated_one history ids None old new none is statement =
-    let both = Has-append old [] statement in (
-      λ h. elim (both.0 (subst (λ all. Has all statement) is h)) [ inl before ↦ inl before | inr nothing ↦ absurd nothing ],
-      λ h. subst (λ all. Has all statement) (sym is) (both.1 (elim h [ inl before ↦ inl before | inr says ↦ absurd (none statement says) ])),
-    )
-stated_one history ids (Some one) old new says is statement =
-    let both = Has-append old (one ∷ []) statement in
-    let n = length history in (
-      λ h. elim (both.0 (subst (λ all. Has all statement) is h)) [
-        | inl before ↦ inl before
-        | inr last ↦ elim last [ inl same ↦ inr (subst (Says history ids) same says) | inr none ↦ absurd none ]
-      ],
-      λ h. subst (λ all. Has all statement) (sym is) (both.1 (elim h [
-        | inl before ↦ inl before
-        | inr other ↦ inr (inl (HaveIds-one_statement history n n one statement ids says other))
-      ])),
-    )
-
--- all statements of the ids
-pub stated_all : (history : History) (ids : List Ids) (made : List Statement) → Collected (Says history) ids [] made
-    → (statement : Statement) → Has made statement ↔ ((one : Ids) × Has ids one × Says history one statement)
-stated_all history ids made collected statement = (
-  λ h. elim ((collected statement).0 h) [ inl none ↦ absurd none | inr more ↦ more ],
-  λ more. (collected statement).1 (inr more),
-)
+-- so the ids of the next are new
+pub kept_new : (order : Order) (span : Span) (rows all : List Row) (i : ℕ) (row : Row) (start found : List Ids) → StandInOrder rows → all ≡ firsts rows
+    → i < length all → row ≡ get_or all i row → Collected (IsKept order span) (take i all) start found
+    → ((ids : Ids) → Has start ids → ¬ IsShownIn rows order span ids)
+    → (ids : Ids) → Has found ids → ¬ IsKept order span row ids
+kept_new order span rows all i row start found in_order are below is collected apart ids has kept =
+    elim ((collected ids).0 has) [
+      | inl was ↦ apart ids was (shown_one order span rows row ids in_order (subst (λ some. Has some row) are (at_read all i row below is)) kept)
+      | inr more ↦
+          let (other, there, also) = more in
+          let before = pairs_take ByKey all i row other (subst (AllPairs ByKey) (sym are) (firsts_by_key rows in_order)) below is there in
+          not_before_itself row.key (subst (λ key. IsBefore key row.key) (also.key_is ∙ sym kept.key_is) before)
+    ]

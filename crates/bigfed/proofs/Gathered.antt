@@ -10,7 +10,7 @@ use Rattle.work_text.specs.declared.work.Work.{Work}
 use Rattle.work_text.specs.Outside.{IsDocOf, IsWithin, read_up_to, document_named}
 use Rattle.bigfed.specs.Documents.{docs_of, Holds, AreDocsOf, AreGathered}
 use Rattle.bigfed.specs.Program.{Documents, AreDocuments, IsNamed, name_of, size_of, total, with_document, with_lines}
-use Rattle.bigfed.specs.QueryText.{has_name, with_name}
+use Rattle.bigfed.specs.Names.{has_name, with_name}
 use Rattle.bigfed.proofs.Outsides.{IsDocOf-within}
 
 -- names that compare alike are one

@@ -2,11 +2,11 @@ pub mod Chunks
 pub mod Collected
 pub mod Commits
 pub mod Gathered
+pub mod GraphIds
 pub mod Growth
+pub mod Known
 pub mod Lasts
-pub mod Matched
-pub mod Names
+pub mod Ordered
 pub mod Outsides
-pub mod QueryParts
-pub mod QueryTokens
+pub mod Solved
 pub mod Steps

@@ -1,36 +1,28 @@
 -- One command, as the history and the store see it.
 use Rattle.std.proofs.Common.{◌≡◌, ℕ, ◌+◌, ◌<◌, ◌≤◌, List, [], ◌∷◌, ◌++◌, length, inl, inr, refl, sym, ◌∙◌, ap, IfOk, OnOk, Option, Some, None, Result, Ok, Err}
-use Rattle.std.proofs.Common.{drop, get_or, subst, append_assoc, arith}
+use Rattle.std.proofs.Common.{drop, get_or, subst, append_assoc}
 use Rattle.std.proofs.lemmas.List.{length-map, drop_more, drop_all}
 use Rattle.term_core.specs.declared.statement.Statement.{Statement}
 use Rattle.term_core.specs.Lines.{lines_of}
-use Rattle.term_core.specs.Lists.{Has}
 use Rattle.term_core.specs.declared.lines.LineEnd.TheVariants.{Any}
 use Rattle.nt_text.specs.declared.document.DocFault.{DocFault}
 use Rattle.nt_text.specs.Document.{IsDocument, IsFirstLabel}
 use Rattle.nt_text.specs.Faults.{HasCause}
 use Rattle.nt_text.specs.Limits.{AreWithinLimits}
-use Rattle.bgp_model.specs.declared.query.Query.{Query}
-use Rattle.bgp_model.specs.declared.solution.Solution.{Solution}
-use Rattle.bgp_model.specs.Solutions.{Solutions}
 use Rattle.work_text.specs.declared.docs.Doc.{Doc}
 use Rattle.work_text.specs.declared.docs.Doc.TheVariants.{Bytes}
-use Rattle.work_text.specs.declared.work.Command.TheVariants.{Query as Ask}
+use Rattle.work_text.specs.declared.work.Command.TheVariants.{Query as Ask, QueryFile}
 use Rattle.work_text.specs.declared.work.Line.{Line}
 use Rattle.change_model.specs.declared.history.Kind.{Kind}
 use Rattle.change_model.specs.declared.history.Kind.TheVariants.{Add, Remove}
 use Rattle.change_model.specs.declared.history.Committed.{Committed}
 use Rattle.change_model.specs.declared.history.Origin.{Origin}
 use Rattle.work_text.specs.declared.report.Outcome.{Outcome}
-use Rattle.work_text.specs.declared.report.Outcome.TheVariants.{Changed, Answered, TooManyRows}
+use Rattle.work_text.specs.declared.report.Outcome.TheVariants.{Changed}
 use Rattle.change_model.specs.History.{History}
 use Rattle.bigfed.specs.declared.store.Store.{Store}
-use Rattle.bigfed.specs.Legal.{IsReadAs, Commits, IsRefused, refusal_of, LoadStep, UnloadStep, QueryStep, Step, Runs, column_names}
-use Rattle.bigfed.specs.QueryText.{Reads}
-use Rattle.bgp_model.specs.declared.query.Pattern.{Pattern}
-use Rattle.bigfed.specs.Indexed.{AreMatching}
+use Rattle.bigfed.specs.Legal.{IsReadAs, Commits, IsRefused, refusal_of, LoadStep, UnloadStep, QueryStep, QueryFileStep, Step, Runs}
 use Rattle.bigfed.specs.Standing.{StandsFor}
-use Rattle.bigfed.proofs.Matched.{solved}
 
 -- a store has as many origins as its history has changes
 pub length-origins : (store : Store) (history : History) → StandsFor store history → length store.origins ≡ length history
@@ -90,55 +82,18 @@ pub not_unloaded : {E : Type 0} (result : Result Outcome E) (store : Store) (his
 not_unloaded (Ok outcome) store history bytes origin done = (done.0, inr done.1, done.2)
 not_unloaded (Err e) store history bytes origin done = tt
 
--- a list of one pattern
-pub only_one : (patterns : List Pattern) (pattern : Pattern) → length patterns ≡ 1 → pattern ≡ get_or patterns 0 pattern → patterns ≡ pattern ∷ []
-only_one [] pattern long is = absurd (omega arith)
-only_one (one ∷ []) pattern long is = ap (λ p. p ∷ []) (sym is)
-only_one (one ∷ other ∷ more) pattern long is = absurd (omega arith)
-
--- a query was answered over the triples that were read for its pattern
-pub answered : (store : Store) (history : History) (text : List ℕ) (query : Query) (pattern : Pattern) (triples : List Statement) (rows : List Solution) (time : ℕ)
-    (columns : List (List ℕ))
-    → StandsFor store history → length text ≤ 65536 → Reads text query → query.patterns ≡ pattern ∷ [] → AreMatching history pattern triples
-    → Solutions (Has triples) query rows → length rows ≤ 1000000
-    → time ≡ length store.origins → columns ≡ column_names query
-    → QueryStep text history (Answered time columns rows)
-answered store history text query pattern triples rows time columns stands short reads one are solutions few is names =
-    inr (
-      short,
-      inl (
-        query,
-        reads,
-        rows,
-        solved history query pattern triples rows one are solutions,
-        inl (few, (λ i. Answered ((is ∙ length-origins store history stands) i) (names i) rows)),
-      ),
-    )
-
--- or it had too many rows
-pub over : (store : Store) (history : History) (text : List ℕ) (query : Query) (pattern : Pattern) (triples : List Statement) (rows : List Solution) (time : ℕ)
-    → StandsFor store history → length text ≤ 65536 → Reads text query → query.patterns ≡ pattern ∷ [] → AreMatching history pattern triples
-    → Solutions (Has triples) query rows → 1000000 < length rows
-    → time ≡ length store.origins
-    → QueryStep text history (TooManyRows time)
-over store history text query pattern triples rows time stands short reads one are solutions many is =
-    inr (
-      short,
-      inl (
-        query,
-        reads,
-        rows,
-        solved history query pattern triples rows one are solutions,
-        inr (many, ap TooManyRows (is ∙ length-origins store history stands)),
-      ),
-    )
-
 -- a query leaves the history as it was
 pub asked : {E : Type 0} (result : Result Outcome E) (store : Store) (docs : List ℕ → Doc) (origin : Origin) (text : List ℕ) (history : History)
     → StandsFor store history → IfOk result (QueryStep text history)
     → IfOk result (λ outcome. (after : History) × Step docs origin (Ask text) history outcome after × StandsFor store after)
 asked (Ok outcome) store docs origin text history stands step = (history, (step, refl), stands)
 asked (Err e) store docs origin text history stands step = tt
+
+pub document_asked : {E : Type 0} (result : Result Outcome E) (store : Store) (docs : List ℕ → Doc) (origin : Origin) (name : List ℕ) (history : History)
+    → StandsFor store history → IfOk result (QueryFileStep (docs name) history)
+    → IfOk result (λ outcome. (after : History) × Step docs origin (QueryFile name) history outcome after × StandsFor store after)
+document_asked (Ok outcome) store docs origin name history stands step = (history, (step, refl), stands)
+document_asked (Err e) store docs origin name history stands step = tt
 
 -- one more line was run
 pub completes_more : (docs : List ℕ → Doc) (lines : List Line) (i place : ℕ) (line : Line) (done : List Outcome) (outcome : Outcome) (history between : History)

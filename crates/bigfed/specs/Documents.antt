@@ -8,7 +8,7 @@ use Rattle.work_text.specs.declared.docs.Doc.{Doc}
 use Rattle.work_text.specs.declared.docs.Doc.TheVariants.{Missing}
 use Rattle.work_text.specs.Outside.{IsDocOf}
 use Rattle.bigfed.specs.Program.{total}
-use Rattle.bigfed.specs.QueryText.{has_name}
+use Rattle.bigfed.specs.Names.{has_name}
 
 -- the documents by name; there is none under a name that was not asked for
 abbrev pub docs_of : BTreeMap (List ℕ) Doc → List ℕ → Doc

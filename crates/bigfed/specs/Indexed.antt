@@ -1,15 +1,12 @@
 -- What the five indexes hold, and what is read from them.
 use Rattle.std.specs.Prelude.{◌≡◌, ◌↔◌, ℕ, ◌≤◌, List, [], length, Option, Some, None}
 use Rattle.term_core.specs.declared.term.Term.{Term}
-use Rattle.term_core.specs.declared.statement.Statement.{Statement}
 use Rattle.term_core.specs.Lists.{Has}
 use Rattle.fed_bytes.specs.declared.span.Span.{Span}
 use Rattle.fed_bytes.specs.Keys.{IsIn}
 use Rattle.triple_keys.specs.declared.key.Ids.{Ids}
 use Rattle.triple_keys.specs.declared.order.Order.{Order}
 use Rattle.triple_keys.specs.declared.order.Order.TheVariants as order
-use Rattle.triple_keys.specs.declared.order.Bound.{Bound}
-use Rattle.triple_keys.specs.Orders.{Agree}
 use Rattle.triple_keys.specs.Keys.{AreIds, key_bytes}
 use Rattle.window_core.specs.declared.rows.Index.{Index}
 use Rattle.window_core.specs.declared.rows.Index.TheVariants.{T2i, I2t, Spo, Pos, Osp}
@@ -19,10 +16,8 @@ use Rattle.window_core.specs.declared.rows.Cell.TheVariants.{Value, Deleted}
 use Rattle.window_core.specs.declared.live.LiveWindow.{LiveWindow}
 use Rattle.window_core.specs.contracts.live.LiveWindowWindow.TheImpl as live_window
 use Rattle.window_core.specs.Rows.{IsLast}
-use Rattle.bgp_model.specs.declared.query.Pattern.{Pattern}
-use Rattle.bgp_model.specs.Filling.{Admits}
-use Rattle.change_model.specs.History.{History, graph_at}
-use Rattle.change_model.specs.Lexicon.{lexicon_at, HasId, HaveIds}
+use Rattle.change_model.specs.History.{History}
+use Rattle.change_model.specs.Lexicon.{lexicon_at, HasId}
 use Rattle.change_model.specs.IndexRows.{IsRow}
 use Rattle.change_model.specs.Laws.{IsWritable, IsValue}
 use Rattle.bigfed.specs.declared.indexes.Indexes.{Indexes}
@@ -76,11 +71,6 @@ abbrev pub IsTermOf : History → ℕ → Option Term → Type 0
 IsTermOf history id None = (term : Term) → HasId history (length history) term id → ⊥
 IsTermOf history id (Some term) = HasId history (length history) term id
 
--- the statement of the ids, and none exactly where none has them
-abbrev pub IsStatementOf : History → Ids → Option Statement → Type 0
-IsStatementOf history ids None = (statement : Statement) → HaveIds history (length history) statement ids → ⊥
-IsStatementOf history ids (Some statement) = HaveIds history (length history) statement ids
-
 -- the newest row of the key is a value
 pub record HasValue (rows : List Row) (key : List ℕ) : Type 0 where
   pub row : Row
@@ -94,26 +84,3 @@ pub record IsShownIn (rows : List Row) (order : Order) (span : Span) (ids : Ids)
   pub ids_are : AreIds ids
   pub within : IsIn span (key_bytes order ids)
   pub value : HasValue rows (key_bytes order ids)
-
--- the statement's terms have ids that agree with the bound ones
-abbrev pub AreBound : History → Bound → Statement → Type 0
-AreBound history bound statement = (ids : Ids) × HaveIds history (length history) statement ids × Agree bound ids
-
--- the triples of the graph with the bound ids
-abbrev pub AreTriples : History → Bound → List Statement → Type 0
-AreTriples history bound triples = (statement : Statement) → (Has triples statement ↔ (graph_at history (length history) statement × AreBound history bound statement))
-
--- the fixed terms of the pattern are those of the statement
-abbrev pub IsAdmitted : Pattern → Statement → Type 0
-IsAdmitted pattern statement =
-    Admits pattern.subject statement.subject × Admits pattern.predicate statement.predicate × Admits pattern.object statement.object
-
--- the ids of the pattern's fixed terms, and none where one of them has no id
-abbrev pub IsBoundOf : History → Pattern → Option Bound → Type 0
-IsBoundOf history pattern None = (statement : Statement) (ids : Ids) → HaveIds history (length history) statement ids → IsAdmitted pattern statement → ⊥
-IsBoundOf history pattern (Some bound) =
-    (statement : Statement) (ids : Ids) → HaveIds history (length history) statement ids → (IsAdmitted pattern statement ↔ Agree bound ids)
-
--- the triples of the graph that have the pattern's fixed terms
-abbrev pub AreMatching : History → Pattern → List Statement → Type 0
-AreMatching history pattern triples = (statement : Statement) → (Has triples statement ↔ (graph_at history (length history) statement × IsAdmitted pattern statement))

@@ -19,14 +19,17 @@ use Rattle.change_model.specs.declared.history.Kind.TheVariants.{Add, Remove}
 use Rattle.change_model.specs.declared.history.Kind.{Kind}
 use Rattle.change_model.specs.declared.history.Origin.{Origin}
 use Rattle.work_text.specs.declared.report.Outcome.{Outcome}
-use Rattle.work_text.specs.declared.report.Outcome.TheVariants.{Changed, Answered, NoDocument, DocumentTooLarge, BadLine, TermTooLong, TooManyStatements, LabelInRemoval, QueryNotBuilt, TooManyRows}
+use Rattle.work_text.specs.declared.report.Outcome.TheVariants.{Changed, Answered, NoDocument, DocumentTooLarge, BadLine, TermTooLong, TooManyStatements, LabelInRemoval, QueryAt, QueryLeftOut, TooManyPatterns, TooManyRows}
 use Rattle.work_text.specs.declared.report.RunReport.{RunReport}
 use Rattle.work_text.specs.declared.work.Command.{Command}
-use Rattle.work_text.specs.declared.work.Command.TheVariants.{Load, Unload, Query as Ask}
+use Rattle.work_text.specs.declared.work.Command.TheVariants.{Load, Unload, Query as Ask, QueryFile}
 use Rattle.work_text.specs.declared.work.Line.{Line}
 use Rattle.work_text.specs.declared.work.Work.{Work}
 use Rattle.change_model.specs.History.{History, graph_at}
-use Rattle.bigfed.specs.QueryText.{Reads}
+use Rattle.query_text.specs.declared.fault.QueryFault.{QueryFault}
+use Rattle.query_text.specs.declared.fault.QueryFault.TheVariants as query_fault
+use Rattle.query_text.specs.Meaning.{Reads}
+use Rattle.query_text.specs.Refusals.{HasCause as HasQueryCause}
 
 -- the bytes are a document of these statements, within the limits, and this is the first line that has a blank node
 pub record IsReadAs (bytes : List ℕ) (statements : List Statement) (first_label : Option ℕ) : Type 0 where
@@ -76,23 +79,40 @@ UnloadStep (Bytes bytes) origin before outcome after = Unloads bytes origin befo
 abbrev pub column_names : Query → List (List ℕ)
 column_names query = map (λ column. unwrap_or (slice_get query.names column) []) query.columns
 
--- the solutions over the triples left by all changes so far
+-- the solutions of a query of at most 16 patterns, over the triples left by all changes so far
 abbrev pub IsAnswer : List ℕ → History → Outcome → Type 0
 IsAnswer text history outcome =
-    (query : Query) × Reads text query × (rows : List Solution) × Solutions (graph_at history (length history)) query rows
+    (query : Query) × Reads text query × (length query.patterns ≤ 16) × (rows : List Solution) × Solutions (graph_at history (length history)) query rows
     × (((length rows ≤ 1000000) × (outcome ≡ Answered (length history) (column_names query) rows))
     ⊎ ((1000000 < length rows) × (outcome ≡ TooManyRows (length history))))
+
+-- what is said of a text that is no query, or of a query of too many patterns
+abbrev pub query_refusal_of : QueryFault → Option Outcome
+query_refusal_of query_fault.NoMemory = None
+query_refusal_of (query_fault.At place) = Some (QueryAt place)
+query_refusal_of (query_fault.LeftOut place word) = Some (QueryLeftOut place word)
+query_refusal_of query_fault.TooManyPatterns = Some TooManyPatterns
+
+abbrev pub IsRefusedQuery : List ℕ → Outcome → Type 0
+IsRefusedQuery text outcome = (bad : QueryFault) × HasQueryCause text bad × (query_refusal_of bad ≡ Some outcome)
 
 abbrev pub QueryStep : List ℕ → History → Outcome → Type 0
 QueryStep text history outcome =
     ((65536 < length text) × (outcome ≡ DocumentTooLarge))
-    ⊎ ((length text ≤ 65536) × (IsAnswer text history outcome ⊎ (((query : Query) → Reads text query → ⊥) × (outcome ≡ QueryNotBuilt))))
+    ⊎ ((length text ≤ 65536) × (IsAnswer text history outcome ⊎ IsRefusedQuery text outcome))
+
+-- the query of a document
+abbrev pub QueryFileStep : Doc → History → Outcome → Type 0
+QueryFileStep Missing history outcome = outcome ≡ NoDocument
+QueryFileStep TooLarge history outcome = outcome ≡ DocumentTooLarge
+QueryFileStep (Bytes text) history outcome = QueryStep text history outcome
 
 -- what a command may do to the history, and what its outcome then is
 abbrev pub Step : (List ℕ → Doc) → Origin → Command → History → Outcome → History → Type 0
 Step docs origin (Load name) before outcome after = LoadStep (docs name) origin before outcome after
 Step docs origin (Unload name) before outcome after = UnloadStep (docs name) origin before outcome after
 Step docs origin (Ask text) before outcome after = QueryStep text before outcome × (after ≡ before)
+Step docs origin (QueryFile name) before outcome after = QueryFileStep (docs name) before outcome × (after ≡ before)
 
 -- the commands, one after another, the first of them at this place in its session
 abbrev pub Runs : (List ℕ → Doc) → ℕ → List Line → History → List Outcome → History → Type 0

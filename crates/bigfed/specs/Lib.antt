@@ -2,10 +2,9 @@ pub mod Adding
 pub mod Documents
 pub mod Indexed
 pub mod Legal
-pub mod Matching
+pub mod Names
 pub mod Program
-pub mod QueryReading
-pub mod QueryText
 pub mod Reading
 pub mod Shown
+pub mod Solving
 pub mod Standing

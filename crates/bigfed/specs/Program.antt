@@ -5,9 +5,9 @@ use Rattle.std.specs.Fmt.{decimal}
 use Rattle.work_text.specs.declared.docs.Doc.{Doc}
 use Rattle.work_text.specs.declared.docs.Doc.TheVariants.{Bytes, Missing, TooLarge}
 use Rattle.work_text.specs.declared.report.Outcome.{Outcome}
-use Rattle.work_text.specs.declared.report.Outcome.TheVariants.{Changed, Answered, NoDocument, DocumentTooLarge, BadLine, TermTooLong, TooManyStatements, LabelInRemoval, QueryNotBuilt, TooManyRows}
+use Rattle.work_text.specs.declared.report.Outcome.TheVariants.{Changed, Answered, NoDocument, DocumentTooLarge, BadLine, TermTooLong, TooManyStatements, LabelInRemoval, QueryAt, QueryLeftOut, TooManyPatterns, TooManyRows}
 use Rattle.work_text.specs.declared.report.RunReport.{RunReport}
-use Rattle.work_text.specs.declared.work.Command.TheVariants.{Load, Unload, Query}
+use Rattle.work_text.specs.declared.work.Command.TheVariants.{Load, Unload, Query, QueryFile}
 use Rattle.work_text.specs.declared.work.Command.{Command}
 use Rattle.work_text.specs.declared.work.Line.{Line}
 use Rattle.work_text.specs.declared.work.Work.{Work}
@@ -18,7 +18,7 @@ use Rattle.work_text.specs.Work.{IsWork, IsBadLine}
 use Rattle.bigfed.specs.declared.answer.Answer.{Answer}
 use Rattle.bigfed.specs.declared.answer.Answer.TheVariants.{Usage, NoWork, WorkTooLarge, BadWork, DocumentsTooLarge, ShelfFault, Ran}
 use Rattle.bigfed.specs.Legal.{Legal}
-use Rattle.bigfed.specs.QueryText.{with_name}
+use Rattle.bigfed.specs.Names.{with_name}
 
 abbrev pub is_done : Outcome → Bool
 is_done (Changed time) = true
@@ -29,7 +29,9 @@ is_done (BadLine line) = false
 is_done (TermTooLong line) = false
 is_done (TooManyStatements line) = false
 is_done (LabelInRemoval line) = false
-is_done QueryNotBuilt = false
+is_done (QueryAt place) = false
+is_done (QueryLeftOut place word) = false
+is_done TooManyPatterns = false
 is_done (TooManyRows time) = false
 
 abbrev pub session_done : List Outcome → Bool
@@ -80,6 +82,7 @@ abbrev pub name_of : Command → Option (List ℕ)
 name_of (Load name) = Some name
 name_of (Unload name) = Some name
 name_of (Query text) = None
+name_of (QueryFile name) = Some name
 
 -- some line needs the document of this name
 abbrev pub IsNamed : List ℕ → List Line → Type 0

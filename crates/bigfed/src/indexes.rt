@@ -1,32 +1,29 @@
 //! The five indexes of the history, each a window in memory over all keys.
-ghost use Rattle.std.specs.Prelude.{◌≡◌, ◌↔◌, ◌++◌, ◌∷◌, ◌<◌, ◌^◌, [], length, take, drop, IfOk, OnOk, IsNone, IfSome, MatchOption};
+ghost use Rattle.std.specs.Prelude.{◌≡◌, ◌↔◌, ◌++◌, ◌∷◌, ◌<◌, ◌^◌, [], List as Items, length, take, drop, IfOk, OnOk, IsNone, IfSome, MatchOption};
 ghost use Rattle.std.specs.List.{AllByRecursion};
-ghost use Rattle.std.specs.Option.{option_to_list};
-ghost use Rattle.term_core.specs.declared.statement.Statement.{Statement as Triple};
 ghost use Rattle.term_core.specs.declared.term.Term.{Term as AnyTerm};
-ghost use Rattle.term_core.specs.Lists.{Has};
 ghost use Rattle.term_core.specs.Spelling.{spelling};
 ghost use Rattle.term_core.specs.Term.{IsTerm, IsStatement};
 ghost use Rattle.fed_bytes.specs.Numbers.{number_bytes};
 ghost use Rattle.triple_keys.specs.declared.key.Ids.{Ids as TheIds};
 ghost use Rattle.window_core.specs.declared.rows.Index.{Index as AnyIndex};
 ghost use Rattle.change_model.specs.History.{History};
-ghost use Rattle.change_model.specs.Lexicon.{HaveIds};
 ghost use Rattle.change_model.specs.Entries.{IsLastEntry, IsIdOf, AreIdsOf, IsResolved};
 ghost use Rattle.change_model.specs.Laws.{IsWritable};
 ghost use Rattle.change_model.specs.declared.history.Committed.{Committed as AnyCommitted};
-ghost use Rattle.bigfed.specs.Indexed.{AreIndexesOf, IsIndexOf, IsLastValue, IsTermOf, IsStatementOf, AreTriples, AreMatching, IsBoundOf, window_by, value_in};
+ghost use Rattle.bigfed.specs.Indexed.{AreIndexesOf, IsIndexOf, IsLastValue, IsTermOf, window_by, value_in};
 ghost use Rattle.bigfed.specs.Adding.{IsNextOf};
-ghost use Rattle.bigfed.specs.Matching.{KeepRules, KeepsRule, IsIdIn};
+ghost use Rattle.join_core.specs.Asking.{Agrees};
+ghost use Rattle.bigfed.specs.Solving.{AreGraphIds};
 
 use crate::shown::shown_ids;
-use bgp_model::{Pattern, Slot};
 use change_model::{Change, Entry, Resolved, vocabulary_of};
 use disk_core::NoDisk;
 use fed_bytes::{Key, Span, get_u64, put_u64};
+use join_core::Ask;
 use std::alloc::Global;
-use term_core::{List, Statement, Term, TermFault, Want};
-use triple_keys::{Bound, Ids, Order, choose, span_of};
+use term_core::{List, Term, TermFault, Want};
+use triple_keys::{Ids, Order};
 use window_core::{Cell, LiveWindow, Row, Window};
 
 #[derive(Drop)]
@@ -95,9 +92,10 @@ impl Indexes {
     }
 
     /// For each of the terms its id, if it has one.
-    fn ids_of_terms(&self, alloc: Global, terms: &[Term]) -> Result<List<Option<u64>>, Want>
+    pub fn ids_of_terms(&self, alloc: Global, terms: &[Term]) -> Result<List<Option<u64>>, Want>
         requires { AllByRecursion IsTerm terms.now }
-        ensures { (history : History) → AreIndexesOf history self.now → IfOk result (AreIdsOf history terms.now) }
+        ensures ids { (history : History) → AreIndexesOf history self.now → IfOk result (AreIdsOf history terms.now) }
+        ensures one_each { IfOk result (λ ids. length ids ≡ length terms.now) }
     {
         let mut ids = Vec::new(alloc);
         'terms: for term in terms {
@@ -130,39 +128,6 @@ impl Indexes {
         }
     }
 
-    /// The statement of the ids, if each is a term's.
-    fn statement_of(&self, alloc: Global, ids: Ids) -> Result<Option<Statement>, Want>
-        ensures { (history : History) → AreIndexesOf history self.now → IfOk result (IsStatementOf history ids) }
-    {
-        let Some(subject) = self.term_of(alloc, ids.subject)? else {
-            return Ok(None);
-        };
-        let Some(predicate) = self.term_of(alloc, ids.predicate)? else {
-            return Ok(None);
-        };
-        let Some(object) = self.term_of(alloc, ids.object)? else {
-            return Ok(None);
-        };
-        Ok(Some(Statement {
-            subject,
-            predicate,
-            object,
-        }))
-    }
-
-    /// The statements of these ids.
-    fn statements_of(&self, alloc: Global, ids: &[Ids]) -> Result<List<Statement>, Want>
-        ensures { (history : History) → AreIndexesOf history self.now → IfOk result (λ made.
-            (statement : Triple) → Has made statement ↔ ((one : TheIds) × Has ids.now one × HaveIds history (length history) statement one)) }
-    {
-        let mut statements = Vec::new(alloc);
-        'ids: for one in ids {
-            let statement = self.statement_of(alloc, *one)?;
-            keep(&mut statements, statement)?;
-        }
-        Ok(List::of(statements))
-    }
-
     fn window(&self, order: Order) -> &LiveWindow
         ensures { result.now ≡ window_by self.now order }
     {
@@ -173,61 +138,14 @@ impl Indexes {
         }
     }
 
-    /// The triples with the bound ids. Takes the logarithm of the index in whose order the bound positions stand first,
-    /// and the rows of these.
-    pub fn triples(&self, alloc: Global, bound: Bound) -> Result<List<Statement>, Want>
-        ensures { (history : History) → AreIndexesOf history self.now → IfOk result (AreTriples history bound) }
+    /// The ids of the triples in the span of an ask. Takes the logarithm of the index of its order, and the rows of the span.
+    pub fn asked(&self, alloc: Global, ask: &Ask) -> Result<List<Ids>, Want>
+        ensures { (history : History) (graph : Items TheIds) → AreIndexesOf history self.now → AreGraphIds history graph →
+            IfOk result (λ triples. Agrees ask.now triples graph) }
     {
-        let order = choose(bound);
-        let span = span_of(alloc, order, bound)?;
-        let ids = shown_ids(alloc, order, self.window(order), &span)?;
-        self.statements_of(alloc, ids.as_slice())
-    }
-
-    /// The triples that have the pattern's fixed terms.
-    pub fn matching(&self, alloc: Global, pattern: &Pattern) -> Result<List<Statement>, Want>
-        requires { KeepRules pattern.now }
-        ensures { (history : History) → AreIndexesOf history self.now → IfOk result (AreMatching history pattern.now) }
-    {
-        match self.bound_of(alloc, pattern)? {
-            Some(bound) => self.triples(alloc, bound),
-            None => Ok(List::of(Vec::new(alloc))),
-        }
-    }
-
-    /// The ids of the pattern's fixed terms. `None` where one of them has no id: then no triple has it.
-    fn bound_of(&self, alloc: Global, pattern: &Pattern) -> Result<Option<Bound>, Want>
-        requires { KeepRules pattern.now }
-        ensures { (history : History) → AreIndexesOf history self.now → IfOk result (IsBoundOf history pattern.now) }
-    {
-        let Some(subject) = self.id_in(alloc, &pattern.subject)? else {
-            return Ok(None);
-        };
-        let Some(predicate) = self.id_in(alloc, &pattern.predicate)? else {
-            return Ok(None);
-        };
-        let Some(object) = self.id_in(alloc, &pattern.object)? else {
-            return Ok(None);
-        };
-        Ok(Some(Bound {
-            subject,
-            predicate,
-            object,
-        }))
-    }
-
-    /// The id that a slot binds, which is none where the slot is open. `None` where its term has no id.
-    fn id_in(&self, alloc: Global, slot: &Slot) -> Result<Option<Option<u64>>, Want>
-        requires { KeepsRule slot.now }
-        ensures { (history : History) → AreIndexesOf history self.now → IfOk result (IsIdIn history slot.now) }
-    {
-        match slot {
-            Slot::Var(_) | Slot::Label(_) => Ok(Some(None)),
-            Slot::Fixed(term) => match self.id_of(alloc, term)? {
-                Some(id) => Ok(Some(Some(id))),
-                None => Ok(None),
-            },
-        }
+        let window = self.window(ask.order);
+        let found = shown_ids(alloc, ask.order, window, &ask.span)?;
+        Ok(List::of(found))
     }
 }
 
@@ -293,13 +211,4 @@ fn term_in(alloc: Global, bytes: &[u8]) -> Result<Option<Term>, Want>
         Err(TermFault::BadTerm { .. }) => Ok(None),
         Err(TermFault::NoMemory) => Err(Want::NoMemory),
     }
-}
-
-fn keep(statements: &mut Vec<Statement>, statement: Option<Statement>) -> Result<(), Want>
-    ensures { OnOk result (statements.new.items ≡ statements.old.items ++ option_to_list statement) }
-{
-    if let Some(statement) = statement {
-        statements.push(statement)?;
-    }
-    Ok(())
 }

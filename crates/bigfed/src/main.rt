@@ -7,12 +7,12 @@ mod answer;
 mod command;
 mod files;
 mod indexes;
-mod query_build;
-mod query_text;
+mod naming;
 mod replay;
 mod shelf;
 mod shown;
 mod sink;
+mod solve;
 mod store;
 
 pub use command::{Status, bigfed, replay_command};
@@ -26,6 +26,8 @@ mod tests;
 mod tests_documents;
 #[cfg(test)]
 mod tests_indexes;
+#[cfg(test)]
+mod tests_joins;
 
 fn main(rt: HostRuntime) -> ExitCode {
     let alloc = rt.alloc();

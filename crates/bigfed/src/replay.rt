@@ -65,6 +65,7 @@ fn run_line(
             store.unload(alloc, doc, origin)
         }
         Command::Query(text) => store.query(alloc, text.items()),
+        Command::QueryFile(name) => store.query_document(alloc, document_in(docs, name, &missing)),
     }
 }
 

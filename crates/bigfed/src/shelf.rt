@@ -3,7 +3,7 @@ ghost use Rattle.std.specs.Prelude.{◌≡◌, ℕ, ◌+◌, ◌≤◌, ◌<◌,
 ghost use Rattle.work_text.specs.Outside.{HasRisen, IsDocOf, IsWithin};
 ghost use Rattle.bigfed.specs.Documents.{docs_of, AreGathered};
 ghost use Rattle.bigfed.specs.Program.{AreDocuments, IsNamed, name_of, size_of, total, with_document, with_lines};
-ghost use Rattle.bigfed.specs.QueryText.{with_name};
+ghost use Rattle.bigfed.specs.Names.{with_name};
 ghost use Rattle.bigfed.specs.Reading.{IsPartly, GoesOn};
 ghost use Rattle.bigfed.specs.declared.shelf.ShelfFault.TheVariants.{NoMemory, Failed as Fails};
 
@@ -160,7 +160,7 @@ fn document_of(command: &Command) -> Option<&Text>
     ensures { MatchOption result (name_of command.now ≡ None) (λ name. name_of command.now ≡ Some name.now) }
 {
     match command {
-        Command::Load(name) | Command::Unload(name) => Some(name),
+        Command::Load(name) | Command::Unload(name) | Command::QueryFile(name) => Some(name),
         Command::Query(_) => None,
     }
 }

@@ -1,6 +1,6 @@
 //! The ids of the keys of a span that have a value.
 ghost use Rattle.std.specs.Prelude.{◌≡◌, ◌↔◌, ◌≤◌, ◌⊎◌, Some, IfOk, OnOk, IsTrue};
-ghost use Rattle.term_core.specs.Lists.{Has};
+ghost use Rattle.term_core.specs.Lists.{Has, AreDistinct};
 ghost use Rattle.triple_keys.specs.declared.key.Ids.{Ids as TheIds};
 ghost use Rattle.window_core.specs.Rows.{StandInOrder, IsChunk};
 ghost use Rattle.window_core.specs.Windows.{IsOnward};
@@ -21,14 +21,15 @@ const FIRST_KEYS: u32 = 8;
 /// How many keys are read at once at the most.
 const MOST_KEYS: u32 = 512;
 
-/// The ids of the keys of a span that have a value. Takes the logarithm of the window, and the rows of the span.
+/// The ids of the keys of a span that have a value, each once. Takes the logarithm of the window, and the rows of the span.
 pub fn shown_ids(
     alloc: Global,
     order: Order,
     window: &LiveWindow,
     span: &Span,
 ) -> Result<Vec<Ids>, Want>
-    ensures { IfOk result (λ found. (ids : TheIds) → Has found.items ids ↔ IsShownIn (rows_in window.now) order span.now ids) }
+    ensures shown { IfOk result (λ found. (ids : TheIds) → Has found.items ids ↔ IsShownIn (rows_in window.now) order span.now ids) }
+    ensures distinct { IfOk result (λ found. AreDistinct found.items) }
 {
     let mut found = Vec::new(alloc);
     let mut next = Some(span.left.copy(alloc)?);
@@ -86,7 +87,9 @@ fn in_span(span: &Span, key: Option<Key>) -> Option<Key>
 /// Puts the ids of the keys behind those that were found, where the newest row is a value.
 fn keep_shown(order: Order, span: &Span, rows: Rows, found: &mut Vec<Ids>) -> Result<(), Want>
     requires { StandInOrder rows }
-    ensures { OnOk result ((ids : TheIds) → Has found.new.items ids ↔ (Has found.old.items ids ⊎ IsShownIn rows order span.now ids)) }
+    ensures shown { OnOk result ((ids : TheIds) → Has found.new.items ids ↔ (Has found.old.items ids ⊎ IsShownIn rows order span.now ids)) }
+    ensures distinct { OnOk result (AreDistinct found.old.items
+        → ((ids : TheIds) → Has found.old.items ids → ¬ IsShownIn rows order span.now ids) → AreDistinct found.new.items) }
 {
     let newest = newest_of(rows);
     'rows: for row in newest.items() {
@@ -106,7 +109,9 @@ fn newest_of(rows: Rows) -> Rows
 
 /// Puts the ids of the row's key behind those that were found, where the row is a value in the span.
 fn keep(order: Order, span: &Span, row: &Row, found: &mut Vec<Ids>) -> Result<(), Want>
-    ensures { OnOk result ((ids : TheIds) → Has found.new.items ids ↔ (Has found.old.items ids ⊎ IsKept order span.now row.now ids)) }
+    ensures kept { OnOk result ((ids : TheIds) → Has found.new.items ids ↔ (Has found.old.items ids ⊎ IsKept order span.now row.now ids)) }
+    ensures distinct { OnOk result (AreDistinct found.old.items
+        → ((ids : TheIds) → Has found.old.items ids → ¬ IsKept order span.now row.now ids) → AreDistinct found.new.items) }
 {
     if !is_value(row) {
         return Ok(());

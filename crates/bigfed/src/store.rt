@@ -4,13 +4,14 @@ ghost use Rattle.std.specs.List.{AllByRecursion};
 ghost use Rattle.term_core.specs.Term.{IsStatement};
 ghost use Rattle.change_model.specs.History.{History};
 ghost use Rattle.work_text.specs.Outside.{IsWithin};
-ghost use Rattle.bigfed.specs.Legal.{LoadStep, UnloadStep, QueryStep, refusal_of, column_names};
+ghost use Rattle.bigfed.specs.Legal.{LoadStep, UnloadStep, QueryStep, QueryFileStep, refusal_of, query_refusal_of, column_names};
 
 use crate::indexes::Indexes;
-use crate::query_text::read_query;
-use bgp_model::{BgpFault, Query, solve_plainly};
+use crate::solve::solve;
+use bgp_model::{BgpFault, Query};
 use change_model::{Change, Kind, Origin, entry_of};
 use nt_text::{DocFault, read_document};
+use query_text::{QueryFault, read_query};
 use std::alloc::Global;
 use term_core::{List, Text, Want};
 use work_text::{Doc, Outcome};
@@ -137,6 +138,17 @@ impl Store {
         }
     }
 
+    /// Answers the query that is a document.
+    pub fn query_document(&self, alloc: Global, doc: &Doc) -> Result<Outcome, Want>
+        ensures { (history : History) → StandsFor self.now history → IfOk result (QueryFileStep doc.now history) }
+    {
+        match doc {
+            Doc::Missing => Ok(Outcome::NoDocument),
+            Doc::TooLarge => Ok(Outcome::DocumentTooLarge),
+            Doc::Bytes(text) => self.query(alloc, text.items()),
+        }
+    }
+
     /// Answers a query over the triples that all changes so far left.
     pub fn query(&self, alloc: Global, text: &[u8]) -> Result<Outcome, Want>
         ensures { (history : History) → StandsFor self.now history → IfOk result (QueryStep text.now history) }
@@ -144,12 +156,12 @@ impl Store {
         if text.len() > MOST_QUERY_BYTES {
             return Ok(Outcome::DocumentTooLarge);
         }
-        let Some(query) = read_query(alloc, text)? else {
-            return Ok(Outcome::QueryNotBuilt);
+        let query = match read_query(alloc, text) {
+            Ok(query) => query,
+            Err(fault) => return query_refusal(fault),
         };
         let time = self.origins.items().len() as u64;
-        let triples = self.indexes.matching(alloc, &query.patterns.items()[0])?;
-        match solve_plainly(alloc, &triples, &query, MOST_ROWS) {
+        match solve(alloc, &self.indexes, &query, MOST_ROWS) {
             Ok(rows) => Ok(Outcome::Answered {
                 time,
                 columns: column_names(alloc, &query)?,
@@ -158,6 +170,18 @@ impl Store {
             Err(BgpFault::TooMany) => Ok(Outcome::TooManyRows { time }),
             Err(BgpFault::NoMemory) => Err(Want::NoMemory),
         }
+    }
+}
+
+/// What is said of a text that is no query, or of a query of too many patterns.
+fn query_refusal(fault: QueryFault) -> Result<Outcome, Want>
+    ensures { IfOk result (λ outcome. query_refusal_of fault ≡ Some outcome) }
+{
+    match fault {
+        QueryFault::NoMemory => Err(Want::NoMemory),
+        QueryFault::At { place } => Ok(Outcome::QueryAt { place }),
+        QueryFault::LeftOut { place, word } => Ok(Outcome::QueryLeftOut { place, word }),
+        QueryFault::TooManyPatterns => Ok(Outcome::TooManyPatterns),
     }
 }
 

@@ -117,7 +117,7 @@ fn refused_commands_change_nothing(rt: HostRuntime) -> Result<(), Fail> {
         "bigfed 1\n1 load b.nt\n1 query ASK { }\n1 load a.nt\n",
         PLAIN,
         1,
-        "opened 0\nsession 1\n1 load refused no document\n2 query refused query not built\n3 load time 1\nhistory 1\n1 1 3\n",
+        "opened 0\nsession 1\n1 load refused no document\n2 query refused query left out ASK at 0\n3 load time 1\nhistory 1\n1 1 3\n",
     )
 }
 

@@ -85,7 +85,7 @@ fn a_term_that_no_triple_has_gives_no_row(rt: HostRuntime) -> Result<(), Fail> {
 }
 
 /// A work and two documents.
-fn shelf_of_two(
+pub(crate) fn shelf_of_two(
     rt: &(impl Abort + AllocGlobal),
     work: &str,
     first: &str,

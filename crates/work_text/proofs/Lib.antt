@@ -1,2 +1,3 @@
 pub mod WorkLines
 pub mod WorkScan
+mod LeftOut

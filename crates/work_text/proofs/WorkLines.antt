@@ -10,7 +10,7 @@ use Rattle.std.proofs.lemmas.Bool.{false≢true, eqb-true}
 use Rattle.std.proofs.lemmas.List.{nil_from_length}
 use Rattle.std.proofs.lemmas.Bool.Decides.{nat_tests}
 use Rattle.work_text.specs.declared.work.Command.{Command}
-use Rattle.work_text.specs.declared.work.Command.TheVariants.{Load, Unload, Query}
+use Rattle.work_text.specs.declared.work.Command.TheVariants.{Load, Unload, Query, QueryFile}
 use Rattle.work_text.specs.declared.work.Line.{Line}
 use Rattle.work_text.specs.Work.{is_name_byte, IsName, IsCommand, IsLine, command_text, line_text, spelled, AreLines, IsFront}
 use Rattle.work_text.specs.WorkReading.{IsReadingOf, IsNameOf, begun, AreBegun}
@@ -46,28 +46,42 @@ line_text-is line good = ap (λ (n : ℕ). decimal n ++ 32 ∷ command_text line
 first_byte : (b c : ℕ) (bs cs : List ℕ) → b ∷ bs ≡ c ∷ cs → b ≡ c
 first_byte b c bs cs e = cc
 
+-- behind five bytes that are the same
+sixth_byte : (b c d e f x y : ℕ) (xs ys : List ℕ) → b ∷ c ∷ d ∷ e ∷ f ∷ x ∷ xs ≡ b ∷ c ∷ d ∷ e ∷ f ∷ y ∷ ys → x ≡ y
+sixth_byte b c d e f x y xs ys same = cc
+
 -- a command that is spelled so loads a document
 loads : (name : List ℕ) (command : Command) → IsCommand command → codes "load " ++ name ≡ command_text command → IsName name
 loads name (Load other) good e = let same : other ≡ name = cc in subst IsName same good
 loads name (Unload other) good e = absurd (omega (arith, first_byte 108 117 _ _ e))
 loads name (Query text) good e = absurd (omega (arith, first_byte 108 113 _ _ e))
+loads name (QueryFile other) good e = absurd (omega (arith, first_byte 108 113 _ _ e))
 
 unloads : (name : List ℕ) (command : Command) → IsCommand command → codes "unload " ++ name ≡ command_text command → IsName name
 unloads name (Load other) good e = absurd (omega (arith, first_byte 117 108 _ _ e))
 unloads name (Unload other) good e = let same : other ≡ name = cc in subst IsName same good
 unloads name (Query text) good e = absurd (omega (arith, first_byte 117 113 _ _ e))
+unloads name (QueryFile other) good e = absurd (omega (arith, first_byte 117 113 _ _ e))
+
+query_files : (name : List ℕ) (command : Command) → IsCommand command → codes "queryfile " ++ name ≡ command_text command → IsName name
+query_files name (Load other) good e = absurd (omega (arith, first_byte 113 108 _ _ e))
+query_files name (Unload other) good e = absurd (omega (arith, first_byte 113 117 _ _ e))
+query_files name (Query text) good e = absurd (omega (arith, sixth_byte 113 117 101 114 121 102 32 _ _ e))
+query_files name (QueryFile other) good e = let same : other ≡ name = cc in subst IsName same good
 
 queries : (text : List ℕ) (command : Command) → IsCommand command → codes "query " ++ text ≡ command_text command → text ≡ [] → ⊥
 queries text (Load name) good e none = omega (arith, first_byte 113 108 _ _ e)
 queries text (Unload name) good e none = omega (arith, first_byte 113 117 _ _ e)
 queries text (Query other) good e none = let same : other ≡ text = cc in good (same ∙ none)
+queries text (QueryFile name) good e none = omega (arith, sixth_byte 113 117 101 114 121 32 102 _ _ e)
 
 neither : (rest : List ℕ) (command : Command)
     → ((name : List ℕ) → rest ≡ codes "load " ++ name → ⊥) → ((name : List ℕ) → rest ≡ codes "unload " ++ name → ⊥)
-    → ((text : List ℕ) → rest ≡ codes "query " ++ text → ⊥) → rest ≡ command_text command → ⊥
-neither rest (Load name) no_load no_unload no_query e = no_load name e
-neither rest (Unload name) no_load no_unload no_query e = no_unload name e
-neither rest (Query text) no_load no_unload no_query e = no_query text e
+    → ((name : List ℕ) → rest ≡ codes "queryfile " ++ name → ⊥) → ((text : List ℕ) → rest ≡ codes "query " ++ text → ⊥) → rest ≡ command_text command → ⊥
+neither rest (Load name) no_load no_unload no_file no_query e = no_load name e
+neither rest (Unload name) no_load no_unload no_file no_query e = no_unload name e
+neither rest (Query text) no_load no_unload no_file no_query e = no_query text e
+neither rest (QueryFile name) no_load no_unload no_file no_query e = no_file name e
 
 -- no command stands where the name is none
 pub no_load : (text name : List ℕ) → text ≡ codes "1 load " ++ name → (IsName name → ⊥) → IsReadingOf text None
@@ -80,6 +94,11 @@ no_unload text name is bad line good e =
     let both : 49 ∷ 32 ∷ (codes "unload " ++ name) ≡ 49 ∷ 32 ∷ command_text line.command = sym is ∙ e ∙ line_text-is line good in
     bad (unloads name line.command good.command cc)
 
+pub no_query_file : (text name : List ℕ) → text ≡ codes "1 queryfile " ++ name → (IsName name → ⊥) → IsReadingOf text None
+no_query_file text name is bad line good e =
+    let both : 49 ∷ 32 ∷ (codes "queryfile " ++ name) ≡ 49 ∷ 32 ∷ command_text line.command = sym is ∙ e ∙ line_text-is line good in
+    bad (query_files name line.command good.command cc)
+
 -- nor where the query is empty
 pub no_query : (text query : List ℕ) → text ≡ codes "1 query " ++ query → query ≡ [] → IsReadingOf text None
 no_query text query is none line good e =
@@ -89,11 +108,12 @@ no_query text query is none line good e =
 -- nor where the line begins with none of the words
 pub no_command : (text : List ℕ)
     → ((name : List ℕ) → text ≡ codes "1 load " ++ name → ⊥) → ((name : List ℕ) → text ≡ codes "1 unload " ++ name → ⊥)
-    → ((query : List ℕ) → text ≡ codes "1 query " ++ query → ⊥) → IsReadingOf text None
-no_command text no_load no_unload no_query line good e =
+    → ((name : List ℕ) → text ≡ codes "1 queryfile " ++ name → ⊥) → ((query : List ℕ) → text ≡ codes "1 query " ++ query → ⊥) → IsReadingOf text None
+no_command text no_load no_unload no_file no_query line good e =
     neither (command_text line.command) line.command
     (λ name is. no_load name (e ∙ line_text-is line good ∙ ap (λ (rest : List ℕ). 49 ∷ 32 ∷ rest) is))
     (λ name is. no_unload name (e ∙ line_text-is line good ∙ ap (λ (rest : List ℕ). 49 ∷ 32 ∷ rest) is))
+    (λ name is. no_file name (e ∙ line_text-is line good ∙ ap (λ (rest : List ℕ). 49 ∷ 32 ∷ rest) is))
     (λ query is. no_query query (e ∙ line_text-is line good ∙ ap (λ (rest : List ℕ). 49 ∷ 32 ∷ rest) is)) refl
 
 -- where the bytes are no name, none was found
@@ -122,6 +142,13 @@ unload_line text bytes name found line is named some same =
     let good : IsName name × (bytes ≡ name) = subst (IsNameOf bytes) some named in
     said text line (Unload name) same good.0 (is ∙ ap (λ (n : List ℕ). codes "1 unload " ++ n) good.1)
 
+-- the line that asks the query of a document
+pub query_file_line : (text bytes name : List ℕ) (found : Option (List ℕ)) (line : Line) → text ≡ codes "1 queryfile " ++ bytes
+    → IsNameOf bytes found → found ≡ Some name → line ≡ record { session = 1; command = QueryFile name } → IsReadingOf text (Some line)
+query_file_line text bytes name found line is named some same =
+    let good : IsName name × (bytes ≡ name) = subst (IsNameOf bytes) some named in
+    said text line (QueryFile name) same good.0 (is ∙ ap (λ (n : List ℕ). codes "1 queryfile " ++ n) good.1)
+
 -- the line that asks a query
 pub query_line : (text query found : List ℕ) (line : Line) → text ≡ codes "1 query " ++ query → (query ≡ [] → ⊥) → found ≡ query
     → line ≡ record { session = 1; command = Query found } → IsReadingOf text (Some line)
@@ -141,12 +168,19 @@ same_command : (a b : Command) → command_text a ≡ command_text b → a ≡ b
 same_command (Load name) (Load other) e = cc
 same_command (Load name) (Unload other) e = absurd (omega (arith, first_byte 108 117 _ _ e))
 same_command (Load name) (Query text) e = absurd (omega (arith, first_byte 108 113 _ _ e))
+same_command (Load name) (QueryFile other) e = absurd (omega (arith, first_byte 108 113 _ _ e))
 same_command (Unload name) (Load other) e = absurd (omega (arith, first_byte 117 108 _ _ e))
 same_command (Unload name) (Unload other) e = cc
 same_command (Unload name) (Query text) e = absurd (omega (arith, first_byte 117 113 _ _ e))
+same_command (Unload name) (QueryFile other) e = absurd (omega (arith, first_byte 117 113 _ _ e))
 same_command (Query text) (Load name) e = absurd (omega (arith, first_byte 113 108 _ _ e))
 same_command (Query text) (Unload name) e = absurd (omega (arith, first_byte 113 117 _ _ e))
 same_command (Query text) (Query other) e = cc
+same_command (Query text) (QueryFile name) e = absurd (omega (arith, sixth_byte 113 117 101 114 121 32 102 _ _ e))
+same_command (QueryFile name) (Load other) e = absurd (omega (arith, first_byte 113 108 _ _ e))
+same_command (QueryFile name) (Unload other) e = absurd (omega (arith, first_byte 113 117 _ _ e))
+same_command (QueryFile name) (Query text) e = absurd (omega (arith, sixth_byte 113 117 101 114 121 102 32 _ _ e))
+same_command (QueryFile name) (QueryFile other) e = cc
 
 line_with : ℕ → Command → Line
 line_with session command = record { session = session; command = command }

@@ -5,11 +5,12 @@ use Rattle.std.specs.Fmt.{decimal}
 use Rattle.bgp_model.specs.declared.solution.Solution.{Solution}
 use Rattle.bgp_model.specs.Row.{line_of}
 use Rattle.change_model.specs.declared.history.Origin.{Origin}
+use Rattle.query_text.specs.Refusals.{printed}
 use Rattle.work_text.specs.declared.report.Outcome.{Outcome}
-use Rattle.work_text.specs.declared.report.Outcome.TheVariants.{Changed, Answered, NoDocument, DocumentTooLarge, BadLine, TermTooLong, TooManyStatements, LabelInRemoval, QueryNotBuilt, TooManyRows}
+use Rattle.work_text.specs.declared.report.Outcome.TheVariants.{Changed, Answered, NoDocument, DocumentTooLarge, BadLine, TermTooLong, TooManyStatements, LabelInRemoval, QueryAt, QueryLeftOut, TooManyPatterns, TooManyRows}
 use Rattle.work_text.specs.declared.report.RunReport.{RunReport}
 use Rattle.work_text.specs.declared.work.Command.{Command}
-use Rattle.work_text.specs.declared.work.Command.TheVariants.{Load, Unload, Query}
+use Rattle.work_text.specs.declared.work.Command.TheVariants.{Load, Unload, Query, QueryFile}
 use Rattle.work_text.specs.declared.work.Line.{Line}
 use Rattle.work_text.specs.declared.work.Work.{Work}
 
@@ -38,13 +39,16 @@ outcome_text (BadLine line) = ended (codes "refused line " ++ decimal line)
 outcome_text (TermTooLong line) = ended (codes "refused term too long line " ++ decimal line)
 outcome_text (TooManyStatements line) = ended (codes "refused too many statements line " ++ decimal line)
 outcome_text (LabelInRemoval line) = ended (codes "refused label in removal line " ++ decimal line)
-outcome_text QueryNotBuilt = ended (codes "refused query not built")
+outcome_text (QueryAt place) = ended (codes "refused query at " ++ decimal place)
+outcome_text (QueryLeftOut place word) = ended (codes "refused query left out " ++ (printed word ++ (codes " at " ++ decimal place)))
+outcome_text TooManyPatterns = ended (codes "refused too many patterns")
 outcome_text (TooManyRows time) = ended (codes "refused too many rows time " ++ decimal time)
 
 abbrev pub verb : Command → List ℕ
 verb (Load name) = codes "load"
 verb (Unload name) = codes "unload"
 verb (Query text) = codes "query"
+verb (QueryFile name) = codes "query"
 
 abbrev pub command_text : ℕ → Command → Outcome → List ℕ
 command_text place command outcome = decimal place ++ 32 ∷ verb command ++ 32 ∷ outcome_text outcome

@@ -6,7 +6,7 @@ use Rattle.term_core.specs.declared.lines.LineEnd.TheVariants.{LineFeed}
 use Rattle.term_core.specs.Characters.{is_digit, is_letter}
 use Rattle.term_core.specs.Lines.{lines_of}
 use Rattle.work_text.specs.declared.work.Command.{Command}
-use Rattle.work_text.specs.declared.work.Command.TheVariants.{Load, Unload, Query}
+use Rattle.work_text.specs.declared.work.Command.TheVariants.{Load, Unload, Query, QueryFile}
 use Rattle.work_text.specs.declared.work.Line.{Line}
 use Rattle.work_text.specs.declared.work.Work.{Work}
 
@@ -41,6 +41,7 @@ abbrev pub IsCommand : Command → Type 0
 IsCommand (Load name) = IsName name
 IsCommand (Unload name) = IsName name
 IsCommand (Query text) = text ≢ []
+IsCommand (QueryFile name) = IsName name
 
 -- today all commands are of session 1
 pub record IsLine (line : Line) : Type 0 where
@@ -51,6 +52,7 @@ abbrev pub command_text : Command → List ℕ
 command_text (Load name) = codes "load " ++ name
 command_text (Unload name) = codes "unload " ++ name
 command_text (Query text) = codes "query " ++ text
+command_text (QueryFile name) = codes "queryfile " ++ name
 
 abbrev pub line_text : Line → List ℕ
 line_text line = decimal line.session ++ 32 ∷ command_text line.command

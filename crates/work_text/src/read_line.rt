@@ -35,6 +35,12 @@ pub fn line_of(alloc: Global, text: &[u8]) -> Result<Option<Line>, Want>
         };
         return Ok(Some(of_session_1(Command::Unload(name))));
     }
+    if let Some(bytes) = behind_queryfile(text) {
+        let Some(name) = name_of(alloc, bytes)? else {
+            return Ok(None);
+        };
+        return Ok(Some(of_session_1(Command::QueryFile(name))));
+    }
     let Some(query) = behind_query(text) else {
         return Ok(None);
     };
@@ -68,6 +74,14 @@ fn behind_unload(text: &[u8]) -> Option<&[u8]>
         (λ rest. text.now ≡ codes "1 unload " ++ rest.now) }
 {
     text.strip_prefix(b"1 unload ".as_slice())
+}
+
+fn behind_queryfile(text: &[u8]) -> Option<&[u8]>
+    ensures { MatchOption result
+        ((rest : Bytes ℕ) → text.now ≢ codes "1 queryfile " ++ rest)
+        (λ rest. text.now ≡ codes "1 queryfile " ++ rest.now) }
+{
+    text.strip_prefix(b"1 queryfile ".as_slice())
 }
 
 fn behind_query(text: &[u8]) -> Option<&[u8]>

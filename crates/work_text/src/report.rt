@@ -1,6 +1,7 @@
 //! Reports: what became of each command, and which changes were committed.
 use bgp_model::Solution;
 use change_model::Origin;
+use query_text::Word;
 use term_core::{List, Text};
 
 /// What became of a command. All but the first two are refusals, and a refused command changes nothing.
@@ -34,8 +35,17 @@ pub enum Outcome {
     LabelInRemoval {
         line: u32,
     },
-    /// The query has a form that is not read today.
-    QueryNotBuilt,
+    /// Reading of the query's text stops at this place, in bytes.
+    QueryAt {
+        place: u32,
+    },
+    /// The same, at a word of SPARQL that is left out.
+    QueryLeftOut {
+        place: u32,
+        word: Word,
+    },
+    /// The query has over 16 patterns.
+    TooManyPatterns,
     /// The query has over 1,000,000 rows at this time.
     TooManyRows {
         time: u64,

@@ -27,6 +27,10 @@ fn read(alloc: Global, text: &[u8]) -> Result<String, Fail> {
                 let query = query.items();
                 write!(commands, "{} query {query:?};", line.session)?;
             }
+            Command::QueryFile(name) => {
+                let name = name.text();
+                write!(commands, "{} queryfile {name};", line.session)?;
+            }
         }
     }
     Ok(commands)
@@ -34,7 +38,7 @@ fn read(alloc: Global, text: &[u8]) -> Result<String, Fail> {
 
 #[test]
 fn works_are_read(rt: HostRuntime) -> Result<(), Fail> {
-    let cases: [(&[u8], &str); 22] = [
+    let cases: [(&[u8], &str); 25] = [
         (b"bigfed 1", ""),
         (b"", "bad 1"),
         (b"#\n# no work\n", "bad 3"),
@@ -55,6 +59,9 @@ fn works_are_read(rt: HostRuntime) -> Result<(), Fail> {
         (b"bigfed 1\n1 load _a-B.9", "1 load _a-B.9;"),
         (b"bigfed 1\n1 unload a.nt\n", "1 unload a.nt;"),
         (b"bigfed 1\n1 unload .nt\n", "bad 2"),
+        (b"bigfed 1\n1 queryfile q.rq\n", "1 queryfile q.rq;"),
+        (b"bigfed 1\n1 queryfile .rq\n", "bad 2"),
+        (b"bigfed 1\n1 queryfile\n", "bad 2"),
         (
             b"\n#\r\nbigfed 1\r\n\r\n1 load a.nt\r\n\n1 load ?\n",
             "bad 7",

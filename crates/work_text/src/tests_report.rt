@@ -1,6 +1,7 @@
 use super::*;
 use bgp_model::Solution;
 use change_model::Origin;
+use query_text::Word;
 use std::alloc::Global;
 use std::process::Abort;
 use std::test::Fail;
@@ -26,6 +27,9 @@ fn command(alloc: Global, verb: &str) -> Result<Command, Want> {
     }
     if verb == "unload" {
         return Ok(Command::Unload(Text::of(alloc, "a.nt")?));
+    }
+    if verb == "queryfile" {
+        return Ok(Command::QueryFile(Text::of(alloc, "q.rq")?));
     }
     let text = Vec::from_slice(alloc, b"SELECT * WHERE { ?s ?p ?o }")?;
     Ok(Command::Query(List::of(text)))
@@ -110,7 +114,7 @@ fn first_outcomes(alloc: Global) -> Result<List<Outcome>, Want> {
         Outcome::TermTooLong { line: 2 },
         Outcome::TooManyStatements { line: 100001 },
         Outcome::LabelInRemoval { line: 1 },
-        Outcome::QueryNotBuilt,
+        Outcome::TooManyPatterns,
     ]?;
     Ok(List::of(outcomes))
 }
@@ -154,8 +158,34 @@ fn each_outcome_is_printed(rt: HostRuntime) -> Result<(), Fail> {
         3 load refused no document\n4 load refused document too large\n\
         5 load refused line 4294967295\n6 load refused term too long line 2\n\
         7 load refused too many statements line 100001\n8 unload refused label in removal line 1\n\
-        9 query refused query not built\nsession 3\n\
+        9 query refused too many patterns\nsession 3\n\
         1 unload time 11\n2 query refused too many rows time 11\nhistory 2\n10 1 1\n11 3 1\n";
+    expect(&rt, &report, &lines(alloc, &told)?, text)?;
+    Ok(())
+}
+
+#[test]
+fn refused_queries_are_printed_with_their_places(rt: HostRuntime) -> Result<(), Fail> {
+    let alloc = rt.alloc();
+    let outcomes = vec![in alloc;
+        Outcome::QueryAt { place: 17 },
+        Outcome::QueryLeftOut {
+            place: 26,
+            word: Word::Filter
+        },
+        Outcome::QueryLeftOut {
+            place: 0,
+            word: Word::OpeningBrace
+        },
+    ]?;
+    let report = RunReport {
+        opened: 0,
+        outcomes: List::of(vec![in alloc; List::of(outcomes)]?),
+        origins: List::of(Vec::new(alloc)),
+    };
+    let told = [(1, "query"), (1, "queryfile"), (1, "query")];
+    let text = "opened 0\nsession 1\n1 query refused query at 17\n\
+        2 query refused query left out FILTER at 26\n3 query refused query left out { at 0\nhistory 0\n";
     expect(&rt, &report, &lines(alloc, &told)?, text)?;
     Ok(())
 }

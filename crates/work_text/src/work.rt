@@ -9,6 +9,8 @@ pub enum Command {
     Unload(Text),
     /// Answers the query of this text.
     Query(List<u8>),
+    /// Answers the query that is the document of this name.
+    QueryFile(Text),
 }
 
 #[derive(Debug, Drop)]

@@ -9,6 +9,7 @@ use crate::report::{Outcome, RunReport};
 use crate::work::{Command, Line, Work};
 use bgp_model::{Solution, row_line};
 use change_model::Origin;
+use query_text::Word;
 use std::alloc::Global;
 use term_core::{List, Text, Want};
 
@@ -121,7 +122,7 @@ fn verb_of(command: &Command) -> &'static str
     match command {
         Command::Load(_) => "load",
         Command::Unload(_) => "unload",
-        Command::Query(_) => "query",
+        Command::Query(_) | Command::QueryFile(_) => "query",
     }
 }
 
@@ -153,12 +154,27 @@ fn write_outcome(alloc: Global, outcome: &Outcome, out: &mut Vec<u8>) -> Result<
             format!(in alloc; "refused label in removal line {line}\n")?.as_str(),
             out,
         ),
-        Outcome::QueryNotBuilt => append("refused query not built\n", out),
+        Outcome::QueryAt { place } => append(
+            format!(in alloc; "refused query at {place}\n")?.as_str(),
+            out,
+        ),
+        Outcome::QueryLeftOut { place, word } => write_left_out(alloc, *place, *word, out),
+        Outcome::TooManyPatterns => append("refused too many patterns\n", out),
         Outcome::TooManyRows { time } => append(
             format!(in alloc; "refused too many rows time {time}\n")?.as_str(),
             out,
         ),
     }
+}
+
+fn write_left_out(alloc: Global, place: u32, word: Word, out: &mut Vec<u8>) -> Result<(), Want>
+    ensures { OnOk result (out.new.items ≡ out.old.items ++ outcome_text (Outcome.QueryLeftOut place word)) }
+{
+    let word = word.text();
+    append(
+        format!(in alloc; "refused query left out {word} at {place}\n")?.as_str(),
+        out,
+    )
 }
 
 fn write_answer(

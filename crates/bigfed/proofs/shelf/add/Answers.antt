@@ -1,6 +1,6 @@
 use Rattle.std.proofs.Common.{ℕ, ◌+◌, sym, ◌∙◌, subst}
 use Rattle.bigfed.specs.Documents.{AreGathered}
-use Rattle.bigfed.specs.QueryText.{with_name}
+use Rattle.bigfed.specs.Names.{with_name}
 use Rattle.bigfed.proofs.Gathered.{AreGathered-again, AreGathered-more}
 use Rattle.bigfed.proofs.shelf.add.Goals as goal
 

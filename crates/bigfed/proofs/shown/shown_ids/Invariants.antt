@@ -1,4 +1,5 @@
 use Rattle.std.proofs.Common.{◌≤◌}
+use Rattle.term_core.specs.Lists.{AreDistinct}
 use Rattle.bigfed.specs.Indexed.{rows_in}
 use Rattle.bigfed.proofs.Chunks.{AreShown, IsFromLeft, left_from}
 use Rattle.bigfed.proofs.shown.shown_ids.Given as goal
@@ -8,6 +9,7 @@ abbrev pub invariant-chunks : goal.invariant-chunks
 invariant-chunks l = record {
   shown : AreShown (rows_in l.window) l.order l.span l.next l.found.items;
   left : IsFromLeft l.span l.next;
+  distinct : AreDistinct l.found.items;
   some : 1 ≤ l.most;
 }
 

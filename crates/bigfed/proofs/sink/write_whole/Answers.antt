@@ -1,4 +1,4 @@
-use Rattle.std.proofs.Common.{◌≡◌, ◌++◌, ℕ, List, arith, sym, ◌∙◌, ap, append_assoc, ◌≤◌}
+use Rattle.std.proofs.Common.{◌≡◌, ◌++◌, arith, sym, ◌∙◌, ap, append_assoc}
 use Rattle.std.proofs.lemmas.List.{take-append-drop}
 use Rattle.work_text.specs.Outside.{IsTaken}
 use Rattle.bigfed.proofs.Outsides.{IsTaken-more}

@@ -1,5 +1,5 @@
 use Rattle.std.proofs.Common.{◌∙◌}
-use Rattle.work_text.proofs.WorkLines.{load_line, unload_line, query_line, no_load, no_unload, no_query, no_command, no_name, is_empty, not_empty}
+use Rattle.work_text.proofs.WorkLines.{load_line, unload_line, query_line, query_file_line, no_load, no_unload, no_query, no_query_file, no_command, no_name, is_empty, not_empty}
 use Rattle.work_text.proofs.read_line.line_of.Goals as goal
 
 pub returns-in_default-2 : goal.returns-in_default-2
@@ -24,7 +24,19 @@ returns-in-Some-behind_unload c =
 
 pub returns-in_default-behind_query : goal.returns-in_default-behind_query
 returns-in_default-behind_query c =
-    no_command c.args.text.now c.in_default.ensures c.in_default-behind_unload.ensures c.in_default-behind_query.ensures
+    no_command c.args.text.now c.in_default.ensures c.in_default-behind_unload.ensures c.in_default-behind_queryfile.ensures
+    c.in_default-behind_query.ensures
+
+pub returns-in_default-4 : goal.returns-in_default-4
+returns-in_default-4 c =
+    no_query_file c.args.text.now c.in-Some-behind_queryfile.bytes.now c.in-Some-behind_queryfile.ensures
+    (no_name _ _ c.in_ok-name-3.ensures c.in_default-4.not-Some)
+
+pub returns-in-Some-behind_queryfile : goal.returns-in-Some-behind_queryfile
+returns-in-Some-behind_queryfile c =
+    query_file_line c.args.text.now c.in-Some-behind_queryfile.bytes.now c.in-Some-4.name c.in_ok-name-3.field-0
+    c.of_session_1-in-Some-behind_queryfile.result c.in-Some-behind_queryfile.ensures c.in_ok-name-3.ensures c.in-Some-4.is
+    c.of_session_1-in-Some-behind_queryfile.ensures
 
 pub returns-then-is_empty : goal.returns-then-is_empty
 returns-then-is_empty c =
