@@ -47,7 +47,7 @@ abbrev pub StepsPerhaps : ℕ → (FileState → FileState → Type 0) → Told 
 StepsPerhaps file Changes old new = (new ≡ old) ⊎ Steps file Changes old new
 
 -- the device has gone on, by moments that each have Q
-pub record GoesOn (Q : State → Type 0) (old new : Told) : Type 0 where
+pub record MomentsGoOn (Q : State → Type 0) (old new : Told) : Type 0 where
   pub come : List State
   pub are : moments new ≡ come ++ moments old
   pub each : AllByRecursion Q come

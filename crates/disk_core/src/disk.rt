@@ -12,7 +12,8 @@
 //! and the clauses then say nothing of the files.
 ghost use Rattle.std.specs.Prelude.{◌≡◌, ℕ, ◌≤◌, Option, length, take, IfOk, OnErr, OnOk};
 ghost use Rattle.disk_core.specs.Moments.{Told};
-ghost use Rattle.disk_core.specs.Disk.{IsCounted, TellsSound, IsLengthOf, IsGreatest, IsReadAt, IsWritten, IsPerhapsWritten, IsSynced, IsRemoved, IsHalfRemoved};
+ghost use Rattle.base_core.specs.Faults.{IsCounted};
+ghost use Rattle.disk_core.specs.Disk.{TellsSound, IsLengthOf, IsGreatest, IsReadAt, IsWritten, IsPerhapsWritten, IsSynced, IsRemoved, IsHalfRemoved};
 
 /// A call of the device failed, and the count of faults rose.
 #[derive(Clone, Copy, Debug, PartialEq, Eq)]

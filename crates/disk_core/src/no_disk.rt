@@ -1,6 +1,6 @@
 //! A device with no files.
 ghost use Rattle.std.specs.Prelude.{◌≡◌, ◌≤◌, None, IsErr};
-ghost use Rattle.disk_core.specs.Disk.{HasRisen, IsCounted};
+ghost use Rattle.base_core.specs.Faults.{HasRisen, IsCounted};
 
 use crate::disk::{Disk, Failed};
 

@@ -1,6 +1,6 @@
 //! The files of a folder as a device.
 ghost use Rattle.std.specs.Prelude.{◌≡◌, ◌≤◌, None, Ok, IfOk};
-ghost use Rattle.disk_core.specs.Disk.{IsCounted};
+ghost use Rattle.base_core.specs.Faults.{IsCounted};
 
 use crate::files::Files;
 use disk_core::{Disk, Failed};

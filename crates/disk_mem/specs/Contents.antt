@@ -1,4 +1,4 @@
--- The bytes of files, in a map by their numbers that has no file without bytes.
+-- Private: the bytes of files, in a map by their numbers that has no file without bytes.
 use Rattle.std.specs.Prelude.{◌≡◌, ◌≢◌, ℕ, ◌==◌, List, [], Option, Some, None, Vec, if◌then◌else◌}
 use Rattle.std.specs.BTreeMap.{BTreeMap, get}
 use Rattle.std.specs.Ordering.{nat_cmp}

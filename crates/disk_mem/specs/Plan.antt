@@ -1,6 +1,6 @@
 -- Which calls of a disk in memory fail, and what it counts.
 use Rattle.std.specs.Prelude.{◌≡◌, ℕ, ◌+◌, ◌-◌, ◌^◌, ◌≤◌, ◌<◌, min, List, Option, Contains, IsSomeAnd, Result, OnOk, IsErr, ◌⊎◌}
-use Rattle.disk_core.specs.Disk.{HasRisen}
+use Rattle.base_core.specs.Faults.{HasRisen}
 use Rattle.disk_mem.specs.declared.plan.Plan.{Plan}
 
 -- the call of this number is to fail

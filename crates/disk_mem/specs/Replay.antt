@@ -1,4 +1,4 @@
--- How the files of a disk stand after the calls that changed it, one after another.
+-- Private: how the files of a disk stand after the calls that changed it, one after another.
 use Rattle.std.specs.Prelude.{◌≡◌, ℕ, ◌==◌, List, [], ◌∷◌, length, if◌then◌else◌}
 use Rattle.disk_core.specs.Files.{FileState, with_bytes, written, synced, removed}
 use Rattle.disk_core.specs.Moments.{State, Told, moments}

@@ -1,4 +1,4 @@
--- What reads give of a file, and what its last sync stored, are among its images, after any calls.
+-- Private: what reads give of a file, and what its last sync stored, are among its images, after any calls.
 use Rattle.std.proofs.Common.{◌≡◌, ℕ, ◌+◌, ◌-◌, ◌<◌, ◌≤◌, ◌==◌, List, [], ◌∷◌, ◌++◌, length, take, drop, replicate, min, max, get_or, true, false, if◌then◌else◌, refl, ap, ◌∙◌, inl, inr, arith, length-append, length-drop}
 use Rattle.std.proofs.lemmas.List.{length-take, length-replicate, get_or_append_left, get_or-append_right, get_or-take, get_or-drop}
 use Rattle.std.proofs.lemmas.Bool.{cases_lt}

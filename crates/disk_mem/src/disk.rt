@@ -11,9 +11,9 @@ use crate::call::Call;
 use crate::contents::Contents;
 use crate::plan::Plan;
 use crate::stored::stored;
+use base_core::Want;
 use disk_core::{Disk, Failed};
 use std::alloc::{AllocError, Global};
-use term_core::Want;
 
 /// Files in memory. It tells them, and chosen calls fail.
 #[derive(Drop)]
@@ -114,7 +114,8 @@ impl MemoryDisk {
 }
 
 impl Disk for MemoryDisk {
-    ghost use Rattle.disk_core.specs.Disk.{IsCounted, IsLengthOf, IsGreatest, IsReadAt};
+    ghost use Rattle.base_core.specs.Faults.{IsCounted};
+    ghost use Rattle.disk_core.specs.Disk.{IsLengthOf, IsGreatest, IsReadAt};
     ghost use Rattle.disk_core.specs.Files.{written, synced, removed};
     ghost use Rattle.disk_core.specs.Moments.{Steps};
     ghost use Rattle.disk_mem.specs.Device.{plan_of, told_of};

@@ -1,8 +1,8 @@
 //! What the tests read of a disk.
 use crate::MemoryDisk;
+use base_core::Want;
 use disk_core::Disk;
 use std::alloc::Global;
-use term_core::Want;
 
 /// A disk on which no call is to fail.
 pub(crate) fn disk(alloc: Global) -> Result<MemoryDisk, Want> {

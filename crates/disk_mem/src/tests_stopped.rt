@@ -1,10 +1,10 @@
 //! What a crash leaves after each call of a short run.
 use crate::MemoryDisk;
 use crate::test_help::{disk, holds};
+use base_core::Want;
 use disk_core::{Disk, Failed};
 use std::alloc::Global;
 use std::test::Fail;
-use term_core::Want;
 
 /// Six calls.
 fn run(disk: &mut MemoryDisk) -> Result<(), Failed> {

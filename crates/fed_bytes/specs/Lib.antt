@@ -1,3 +1,2 @@
 pub mod Ends
 pub mod Keys
-pub mod Numbers

@@ -4,15 +4,19 @@ ghost use Rattle.std.specs.Ordering.{nat_cmp, as_partial_cmp};
 ghost use Rattle.std.specs.Cmp.{partial_equiv_from_equiv};
 ghost use Rattle.std.specs.Cmp.Lexicographic.{pointwise, slice_cmp, nat_list_eq_equiv, nat_list_cmp_total, texts_po, texts_ties};
 
+use base_core::Want;
+use smallvec::SmallVec;
 use std::alloc::Global;
 use std::cmp::Ordering;
 use std::marker::Model;
-use term_core::Want;
+
+/// How many bytes of a key stand inside of the value: those of three ids. Longer keys stand on the heap.
+const INLINE: usize = 24;
 
 /// A key. Keys are ordered by their bytes, and a key stands before those that it begins.
 #[derive(Debug, Drop)]
 pub struct Key {
-    inner: Vec<u8>,
+    inner: SmallVec<u8, INLINE>,
 }
 
 impl Model for Key {
@@ -28,8 +32,7 @@ impl Key {
     pub fn of(alloc: Global, bytes: &[u8]) -> Result<Key, Want>
         ensures { IfOk result (λ made. made ≡ bytes.now) }
     {
-        let mut inner = Vec::new(alloc);
-        inner.extend_from_slice(bytes)?;
+        let inner = SmallVec::from_slice(alloc, bytes)?;
         Ok(Key { inner })
     }
 
@@ -37,7 +40,9 @@ impl Key {
     pub fn from_bytes(bytes: Vec<u8>) -> Key
         ensures { result ≡ bytes.items }
     {
-        Key { inner: bytes }
+        Key {
+            inner: SmallVec::from_vec(bytes),
+        }
     }
 
     pub fn bytes(&self) -> &[u8]

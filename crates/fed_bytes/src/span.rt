@@ -6,8 +6,8 @@ ghost use Rattle.fed_bytes.specs.Keys.{IsIn, IsBeforeEnd, AreApart, IsMeeting, I
 ghost use Rattle.fed_bytes.specs.Ends.{later, earlier_end, end_of, EndsWithoutFf};
 
 use crate::key::Key;
+use base_core::Want;
 use std::alloc::Global;
-use term_core::Want;
 
 /// The keys from `left` on, and before `right` where there is one.
 #[derive(Debug, Drop)]

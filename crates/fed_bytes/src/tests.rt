@@ -36,13 +36,3 @@ fn spans_meet_where_both_have_keys(rt: HostRuntime) -> Result<(), Fail> {
     assert!(rt; !both.contains(b"ac"));
     Ok(())
 }
-
-#[test]
-fn numbers_are_eight_bytes(rt: HostRuntime) -> Result<(), Fail> {
-    let mut out = vec![in rt.alloc(); 7u8]?;
-    put_u64(258, &mut out)?;
-    assert_eq!(rt; out.as_slice(), b"\x07\0\0\0\0\0\0\x01\x02".as_slice());
-    assert_eq!(rt; get_u64(&out, 1), Some(258));
-    assert_eq!(rt; get_u64(&out, 2), None);
-    Ok(())
-}

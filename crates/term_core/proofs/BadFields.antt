@@ -10,36 +10,12 @@ use Rattle.term_core.specs.Term.{IsTerm, IsIri, IsTag, IsLabel, IsForm}
 use Rattle.term_core.specs.Spelling.{counted, spelling, IsKind, HasForm, BreaksRule, IsFirstBadField, wrong_kind, wrong_iri, short_length, wrong_form, wrong_datatype, wrong_tag, short_time, wrong_label}
 use Rattle.term_core.specs.declared.fault.TermFault.{TermFault}
 use Rattle.term_core.specs.declared.fault.TermFault.TheVariants.{NoMemory, BadTerm}
-use Rattle.term_core.specs.Decoding.{IsBadAt}
-use Rattle.term_core.specs.Faults.{IsNoMemory, HasCause}
+use Rattle.term_core.specs.Decoding.{IsBadTermAt}
+use Rattle.term_core.specs.Faults.{IsNoMemory, IsTermFault}
 use Rattle.term_core.proofs.Places.{bad_place_same}
 use Rattle.term_core.proofs.Spelling.{first_same, rest_same, parts_same, counted_same}
 
--- ---- numbers in front
-
--- the items of a front are bytes too
-small_front : (n : ℕ) (bytes : List ℕ) → ((k : ℕ) → get_or bytes k 0 < 256) → (k : ℕ) → get_or (take n bytes) k 0 < 256
-small_front zero bytes small k = omega arith
-small_front (suc n) [] small k = omega arith
-small_front (suc n) (b ∷ bytes) small zero = small 0
-small_front (suc n) (b ∷ bytes) small (suc k) = small_front n bytes (λ j. small (suc j)) k
-
-fits_small : (bytes : List ℕ) → ((k : ℕ) → Fits w8 (get_or bytes k 0)) → (k : ℕ) → get_or bytes k 0 < 256
-fits_small bytes fits k = omega (arith, fits k)
-
-pub length_in_front : (fields field texts : List ℕ) (n : ℕ) → 4 ≤ length fields → field ≡ take 4 fields → texts ≡ drop 4 fields
-    → ((k : ℕ) → Fits w8 (get_or fields k 0)) → n ≡ from_be_bytes w32 field → fields ≡ to_be_bytes w32 n ++ texts
-length_in_front fields field texts n enough front back small is =
-    let bytes : to_be_bytes w32 n ≡ take 4 fields =
-    be_bytes_4 (take 4 fields) n (length-take-le 4 fields enough) (small_front 4 fields (fits_small fields small)) (is ∙ ap (from_be_bytes w32) front) in
-    sym (take-append-drop 4 fields) ∙ ap (λ l. l ++ drop 4 fields) (sym bytes) ∙ ap (λ l. to_be_bytes w32 n ++ l) (sym back)
-
-pub time_in_front : (fields field rest : List ℕ) (n : ℕ) → 8 ≤ length fields → field ≡ take 8 fields → rest ≡ drop 8 fields
-    → ((k : ℕ) → Fits w8 (get_or fields k 0)) → n ≡ from_be_bytes w64 field → fields ≡ to_be_bytes w64 n ++ rest
-time_in_front fields field rest n enough front back small is =
-    let bytes : to_be_bytes w64 n ≡ take 8 fields =
-    be_bytes_8 (take 8 fields) n (length-take-le 8 fields enough) (small_front 8 fields (fits_small fields small)) (is ∙ ap (from_be_bytes w64) front) in
-    sym (take-append-drop 8 fields) ∙ ap (λ l. l ++ drop 8 fields) (sym bytes) ∙ ap (λ l. to_be_bytes w64 n ++ l) (sym back)
+-- ---- forms in front
 
 -- the form that is cut behind its length
 pub form_in_front : (fields texts front rest form : List ℕ) (n : ℕ) → n < 2 ^ 32 → fields ≡ to_be_bytes w32 n ++ texts
@@ -120,17 +96,14 @@ tag_is_bad fields form rest at is cut place isnt =
 pub time_is_short : (fields : List ℕ) → length fields < 8 → IsFirstBadField (4 ∷ fields) 1
 time_is_short fields short = record { front = 4 ∷ []; rest = fields; cut = refl; place = refl; broken = short_time refl short }
 
-pub label_is_bad : (fields time rest : List ℕ) → 8 ≤ length fields → time ≡ take 8 fields → rest ≡ drop 8 fields → ¬ IsLabel rest
-    → IsFirstBadField (4 ∷ fields) 9
-label_is_bad fields time rest enough front back isnt =
-    let long : length time ≡ 8 = ap length front ∙ length-take-le 8 fields enough in
-    let whole : fields ≡ time ++ rest = sym (take-append-drop 8 fields) ∙ ap (λ l. l ++ drop 8 fields) (sym front) ∙ ap (λ l. time ++ l) (sym back) in
+pub label_is_bad : (fields rest : List ℕ) (n : ℕ) → fields ≡ to_be_bytes w64 n ++ rest → ¬ IsLabel rest → IsFirstBadField (4 ∷ fields) 9
+label_is_bad fields rest n cut isnt =
     record {
-      front = 4 ∷ time;
+      front = 4 ∷ to_be_bytes w64 n;
       rest = rest;
-      cut = ap (λ l. 4 ∷ l) whole;
-      place = omega arith;
-      broken = wrong_label time long refl isnt;
+      cut = ap (λ l. 4 ∷ l) cut;
+      place = refl;
+      broken = wrong_label (to_be_bytes w64 n) refl refl isnt;
     }
 
 -- ---- what the fields of a term are
@@ -211,14 +184,14 @@ bad_spells_none bytes at bad term is e = no_term bad.front bad.rest bad.broken t
 
 -- ---- what the fault of a reader tells
 
-pub bad_is_no_want : (bytes : List ℕ) (fault : TermFault) → IsBadAt bytes fault → (term : Term) → IsTerm term → bytes ≡ spelling term → IsNoMemory fault
+pub bad_is_no_want : (bytes : List ℕ) (fault : TermFault) → IsBadTermAt bytes fault → (term : Term) → IsTerm term → bytes ≡ spelling term → IsNoMemory fault
 bad_is_no_want bytes NoMemory bad term is e = tt
 bad_is_no_want bytes (BadTerm at) bad term is e = bad_spells_none bytes at bad term is e
 
-pub bad_has_cause : (bytes : List ℕ) (fault : TermFault) → IsBadAt bytes fault → HasCause bytes fault
+pub bad_has_cause : (bytes : List ℕ) (fault : TermFault) → IsBadTermAt bytes fault → IsTermFault bytes fault
 bad_has_cause bytes NoMemory bad = tt
 bad_has_cause bytes (BadTerm at) bad = (bad, bad_spells_none bytes at bad)
 
-pub bad_is_here : (bytes : List ℕ) (fault : TermFault) → IsBadAt bytes fault → (at : ℕ) → IsFirstBadField bytes at → fault ≡ BadTerm at
+pub bad_is_here : (bytes : List ℕ) (fault : TermFault) → IsBadTermAt bytes fault → (at : ℕ) → IsFirstBadField bytes at → fault ≡ BadTerm at
 bad_is_here bytes NoMemory bad at is = absurd bad
 bad_is_here bytes (BadTerm place) bad at is = ap BadTerm (bad_place_same bytes place at bad is)

@@ -1,7 +1,6 @@
 pub mod BadFields
 pub mod Bytes
 pub mod Labels
-pub mod LineFronts
 pub mod Places
 pub mod Spelling
 pub mod Tags

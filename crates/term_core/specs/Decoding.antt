@@ -1,4 +1,4 @@
--- What the private functions that read a spelling find.
+-- Private: what the private functions that read a spelling find.
 use Rattle.std.specs.Prelude.{◌≡◌, ℕ, Bool, not, ◌&&◌, ◌==◌, List, length, Result, Ok, Err}
 use Rattle.std.specs.List.{list_all}
 use Rattle.term_core.specs.declared.decode.Parts.{Parts}
@@ -15,9 +15,9 @@ abbrev pub is_group : (ℕ → Bool) → List ℕ → Bool
 is_group class group = not (length group == 0) && list_all class group
 
 -- the bytes are bad, and here
-abbrev pub IsBadAt : List ℕ → TermFault → Type 0
-IsBadAt bytes NoMemory = ⊥
-IsBadAt bytes (BadTerm at) = IsFirstBadField bytes at
+abbrev pub IsBadTermAt : List ℕ → TermFault → Type 0
+IsBadTermAt bytes NoMemory = ⊥
+IsBadTermAt bytes (BadTerm at) = IsFirstBadField bytes at
 
 abbrev pub term_of : Parts → Term
 term_of (parts.Iri iri) = Iri iri.now
@@ -28,4 +28,4 @@ term_of (parts.Blank at label) = Blank at label.now
 -- the parts are those of a term with this spelling, or the bytes are bad
 abbrev pub IsRead : List ℕ → Result Parts TermFault → Type 0
 IsRead bytes (Ok found) = IsTerm (term_of found) × (bytes ≡ spelling (term_of found))
-IsRead bytes (Err fault) = IsBadAt bytes fault
+IsRead bytes (Err fault) = IsBadTermAt bytes fault

@@ -11,6 +11,6 @@ IsNoMemory NoMemory = Unit {0}
 IsNoMemory (BadTerm at) = ⊥
 
 -- want of memory comes freely, and bytes are called bad where they spell no term, at the first field that breaks its rule
-abbrev pub HasCause : List ℕ → TermFault → Type 0
-HasCause bytes NoMemory = Unit {0}
-HasCause bytes (BadTerm at) = IsFirstBadField bytes at × ((term : Term) → IsTerm term → bytes ≡ spelling term → ⊥)
+abbrev pub IsTermFault : List ℕ → TermFault → Type 0
+IsTermFault bytes NoMemory = Unit {0}
+IsTermFault bytes (BadTerm at) = IsFirstBadField bytes at × ((term : Term) → IsTerm term → bytes ≡ spelling term → ⊥)

@@ -3,15 +3,14 @@ ghost use Rattle.std.specs.Prelude.{◌≡◌, ◌<◌, ◌+◌, ◌^◌, ◌∷
 ghost use Rattle.term_core.specs.declared.term.Term.{Term as AnyTerm};
 ghost use Rattle.term_core.specs.Term.{IsTerm, IsIri, IsTag, IsLabel, IsForm};
 ghost use Rattle.term_core.specs.Spelling.{spelling, counted, HasForm, IsFirstBadField};
-ghost use Rattle.term_core.specs.Decoding.{term_of, IsRead, IsBadAt};
-ghost use Rattle.term_core.specs.Faults.{HasCause, IsNoMemory};
+ghost use Rattle.term_core.specs.Decoding.{term_of, IsRead, IsBadTermAt};
+ghost use Rattle.term_core.specs.Faults.{IsTermFault, IsNoMemory};
 
 use crate::fault::TermFault;
 use crate::kind::{BLANK, IRI, LITERAL, TAGGED};
 use crate::parts::{is_iri, is_label, is_tag};
 use crate::term::Term;
-use crate::text::Text;
-use crate::want::Want;
+use base_core::{Text, Want, first_u32, first_u64};
 use std::alloc::Global;
 use std::str;
 
@@ -23,7 +22,7 @@ impl Term {
         ensures found { IfOk result (λ term. IsTerm term × (bytes.now ≡ spelling term)) }
         // The bytes spell no other term.
         ensures only { (term : AnyTerm) → IsTerm term → bytes.now ≡ spelling term → MatchResult result (λ found. found ≡ term) IsNoMemory }
-        ensures fault { IfErr result (HasCause bytes.now) }
+        ensures fault { IfErr result (IsTermFault bytes.now) }
         // Bytes with a bad field are refused at it, whether there is memory or not.
         ensures bad { (at : ℕ) → IsFirstBadField bytes.now at → result ≡ Err (TermFault.BadTerm at) }
     {
@@ -122,13 +121,12 @@ fn read_tagged(fields: &[u8]) -> Result<Parts<'_>, TermFault>
 fn read_blank(fields: &[u8]) -> Result<Parts<'_>, TermFault>
     ensures { IsRead (4 ∷ fields.now) result }
 {
-    let Some((time, rest)) = fields.split_first_chunk::<8>() else {
+    let Some((at, rest)) = first_u64(fields) else {
         return Err(TermFault::BadTerm { at: BEHIND_KIND });
     };
     let Some(label) = label_in(rest) else {
         return Err(TermFault::BadTerm { at: BEHIND_TIME });
     };
-    let at = u64::from_be_bytes(*time);
     Ok(Parts::Blank { at, label })
 }
 
@@ -146,12 +144,11 @@ fn read_form(fields: &[u8]) -> Result<Form<'_>, TermFault>
     requires { length fields.now + 1 < 2 ^ 32 }
     ensures found { IfOk result (λ found. IsForm found.form.now × (fields.now ≡ counted found.form.now ++ found.rest.now)) }
     ensures end { IfOk result (λ found. found.end ≡ 5 + length found.form.now) }
-    ensures fault { (kind : ℕ) → HasForm kind → IfErr result (IsBadAt (kind ∷ fields.now)) }
+    ensures fault { (kind : ℕ) → HasForm kind → IfErr result (IsBadTermAt (kind ∷ fields.now)) }
 {
-    let Some((length, texts)) = fields.split_first_chunk::<4>() else {
+    let Some((length, texts)) = first_u32(fields) else {
         return Err(TermFault::BadTerm { at: BEHIND_KIND });
     };
-    let length = u32::from_be_bytes(*length);
     let Some((form, rest)) = texts.split_at_checked(length as usize) else {
         return Err(TermFault::BadTerm { at: BEHIND_LENGTH });
     };

@@ -5,7 +5,7 @@ ghost use Rattle.term_core.specs.Spelling.{spelling, counted, HasShortForm};
 
 use crate::kind::{BLANK, IRI, LITERAL, TAGGED};
 use crate::term::Term;
-use crate::want::Want;
+use base_core::{Want, put_u32, put_u64};
 use std::alloc::Global;
 
 impl Term {
@@ -42,7 +42,7 @@ fn encode_form(alloc: Global, kind: u8, form: &str, rest: &str) -> Result<Vec<u8
     let length = form.len() as u32;
     let mut bytes = Vec::with_capacity(alloc, 5 + form.len() + rest.len())?;
     bytes.push(kind)?;
-    bytes.extend_from_slice(&length.to_be_bytes())?;
+    put_u32(length, &mut bytes)?;
     bytes.extend_from_slice(form.as_bytes())?;
     bytes.extend_from_slice(rest.as_bytes())?;
     Ok(bytes)
@@ -53,7 +53,7 @@ fn encode_blank(alloc: Global, at: u64, label: &str) -> Result<Vec<u8>, Want>
 {
     let mut bytes = Vec::with_capacity(alloc, 9 + label.len())?;
     bytes.push(BLANK)?;
-    bytes.extend_from_slice(&at.to_be_bytes())?;
+    put_u64(at, &mut bytes)?;
     bytes.extend_from_slice(label.as_bytes())?;
     Ok(bytes)
 }

@@ -2,7 +2,7 @@
 ghost use Rattle.std.specs.Prelude.{◌≡◌};
 ghost use Rattle.term_core.specs.declared.fault.TermFault.TheVariants.{NoMemory};
 
-use crate::want::Want;
+use base_core::Want;
 use std::error::Error;
 use std::fmt;
 

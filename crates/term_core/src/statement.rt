@@ -2,7 +2,7 @@
 ghost use Rattle.std.specs.Prelude.{◌≡◌, ◌↔◌, IfOk, IsTrue};
 
 use crate::term::Term;
-use crate::want::Want;
+use base_core::Want;
 use std::alloc::Global;
 
 /// An RDF triple (RDF 1.1 Concepts, section 3.1). Which terms may stand where is `IsStatement`.

@@ -1,8 +1,7 @@
 //! A term of RDF 1.1, section 3.
 ghost use Rattle.std.specs.Prelude.{◌≡◌, ◌↔◌, IfOk, IsTrue};
 
-use crate::text::Text;
-use crate::want::Want;
+use base_core::{Text, Want};
 use std::alloc::Global;
 
 /// An IRI, a literal, a literal with a language tag, or a blank node.

@@ -2,6 +2,7 @@ ghost use Rattle.std.specs.Prelude.{◌≡◌, ◌<◌, ◌^◌, length, IfOk};
 ghost use Rattle.term_core.specs.Spelling.{HasShortForm};
 
 use super::*;
+use base_core::{Text, Want};
 use std::alloc::Global;
 use std::test::Fail;
 
@@ -39,31 +40,6 @@ fn a_copied_statement_is_the_same(rt: HostRuntime) -> Result<(), Fail> {
     };
     assert!(rt; statement.equals(&statement.copy(rt.alloc())?));
     Ok(())
-}
-
-#[test]
-fn lists_keep_their_items(rt: HostRuntime) -> Result<(), Fail> {
-    let mut list = List::of(vec![in rt.alloc(); 1u8]?);
-    list.append(List::of(vec![in rt.alloc(); 2]?))?;
-    assert_eq!(rt; list.items(), [1, 2].as_slice());
-    assert_eq!(rt; list.into_items().len(), 2);
-    Ok(())
-}
-
-/// The lengths of the first line and of what is behind it.
-fn cut(text: &[u8], end: LineEnd) -> Option<(usize, usize)> {
-    first_line(text, end).map(|(line, rest)| (line.len(), rest.len()))
-}
-
-#[test]
-fn lines_end_where_they_should(rt: HostRuntime) {
-    assert_eq!(rt; cut(b"", LineEnd::Any), None);
-    assert_eq!(rt; cut(b"ab", LineEnd::Any), Some((2, 0)));
-    assert_eq!(rt; cut(b"a\r\nb", LineEnd::Any), Some((1, 1)));
-    assert_eq!(rt; cut(b"a\rb", LineEnd::Any), Some((1, 1)));
-    assert_eq!(rt; cut(b"a\rb", LineEnd::LineFeed), Some((3, 0)));
-    assert_eq!(rt; cut(b"a\r\nb", LineEnd::LineFeed), Some((1, 1)));
-    assert_eq!(rt; cut(b"a\r", LineEnd::LineFeed), Some((2, 0)));
 }
 
 /// The bytes read as a term and spelled again.

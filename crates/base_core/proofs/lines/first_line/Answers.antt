@@ -1,9 +1,9 @@
 use Rattle.std.proofs.Common.{arith, ◌≡◌, ◌≢◌, ◌∷◌, ◌<◌, ◌+◌, ◌≤◌, ℕ, List, [], length, take, drop, get_or, ap, sym, ◌∙◌, Bool, false, ◌==◌}
 use Rattle.std.proofs.lemmas.List.{take_more, drop_more, take_all, drop_all}
-use Rattle.term_core.specs.declared.lines.LineEnd.{LineEnd}
-use Rattle.term_core.specs.Lines.{lines_of, onto_first}
-use Rattle.term_core.proofs.LineFronts.{onto_front, onto_front-more, onto_front-end, onto_front-rest}
-use Rattle.term_core.proofs.lines.first_line.Goals as goal
+use Rattle.base_core.specs.declared.lines.LineEnd.{LineEnd}
+use Rattle.base_core.specs.Lines.{lines_of, onto_first}
+use Rattle.base_core.proofs.LineFronts.{onto_front, onto_front-more, onto_front-end, onto_front-rest}
+use Rattle.base_core.proofs.lines.first_line.Goals as goal
 
 pub returns-then-width-gt0-clause-cut : goal.returns-then-width-gt0-clause-cut
 returns-then-width-gt0-clause-cut c =

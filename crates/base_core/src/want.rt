@@ -1,6 +1,6 @@
 //! The fault of a call that can fail for memory alone.
 ghost use Rattle.std.specs.Prelude.{◌≡◌};
-ghost use Rattle.term_core.specs.declared.want.Want.TheVariants.{NoMemory};
+ghost use Rattle.base_core.specs.declared.want.Want.TheVariants.{NoMemory};
 
 use std::alloc::{AllocError, AllocFailed};
 use std::error::Error;

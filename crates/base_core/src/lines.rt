@@ -1,6 +1,6 @@
 //! Cutting bytes into lines.
 ghost use Rattle.std.specs.Prelude.{◌≡◌, ◌↔◌, ◌∷◌, ◌<◌, ◌≤◌, ℕ, List, [], length, drop, IsNone, IfSome};
-ghost use Rattle.term_core.specs.Lines.{lines_of, begins_with_lf, onto_first};
+ghost use Rattle.base_core.specs.Lines.{lines_of, begins_with_lf, onto_first};
 
 /// Where a line ends.
 #[derive(Clone, Copy, Debug, PartialEq, Eq)]

@@ -1,7 +1,7 @@
 -- The lines of a text, without their ends. The last line may have no end.
 use Rattle.std.specs.Prelude.{ℕ, Bool, false, ◌&&◌, ◌||◌, not, List, [], ◌∷◌, ◌==◌, if◌then◌else◌}
-use Rattle.term_core.specs.declared.lines.LineEnd.{LineEnd}
-use Rattle.term_core.specs.declared.lines.LineEnd.TheVariants.{Any, LineFeed}
+use Rattle.base_core.specs.declared.lines.LineEnd.{LineEnd}
+use Rattle.base_core.specs.declared.lines.LineEnd.TheVariants.{Any, LineFeed}
 
 abbrev pub begins_with_lf : List ℕ → Bool
 begins_with_lf [] = false

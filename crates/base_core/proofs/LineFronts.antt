@@ -1,6 +1,6 @@
 -- The front of a first line that is already read.
 use Rattle.std.proofs.Common.{◌≡◌, ◌≢◌, ℕ, List, [], ◌∷◌, ◌++◌, refl, ap}
-use Rattle.term_core.specs.Lines.{onto_first}
+use Rattle.base_core.specs.Lines.{onto_first}
 
 abbrev pub onto_front : List ℕ → List (List ℕ) → List (List ℕ)
 onto_front [] lines = lines

@@ -1,0 +1,5 @@
+pub mod Faults
+pub mod Flat
+pub mod Lines
+pub mod Lists
+pub mod Numbers
