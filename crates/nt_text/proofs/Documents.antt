@@ -5,16 +5,13 @@ use Rattle.std.specs.Option.{option_to_list}
 use Rattle.std.proofs.lemmas.Bool.{or_cases, or_left, or_right}
 use Rattle.std.proofs.lemmas.List.{append-nil, length_push}
 use Rattle.std.proofs.lemmas.Option.{same_Some}
-use Rattle.term_core.specs.declared.lines.LineEnd.TheVariants.{Any}
+use Rattle.base_core.specs.declared.lines.LineEnd.TheVariants.{Any}
 use Rattle.term_core.specs.declared.statement.Statement.{Statement}
 use Rattle.term_core.specs.declared.term.Term.{Term}
 use Rattle.term_core.specs.declared.term.Term.TheVariants.{Iri, Literal, Tagged, Blank}
-use Rattle.term_core.specs.Lines.{lines_of}
+use Rattle.base_core.specs.Lines.{lines_of}
 use Rattle.term_core.specs.Term.{IsStatement}
-use Rattle.nt_text.specs.declared.document.DocFault.{DocFault}
-use Rattle.nt_text.specs.declared.document.DocFault.TheVariants as faults
 use Rattle.nt_text.specs.Document.{Brings, AreLinesOf, IsDocument, IsBlankNode, HasLabel, IsFirstLabel, HasNoTimes}
-use Rattle.nt_text.specs.Faults.{IsNoMemory, IsLine, IsOutside, IsTooLong, IsTooMany, IsBadLine, HasCause}
 use Rattle.nt_text.specs.Limits.{HasShortTerms, AreWithinLimits}
 use Rattle.nt_text.specs.Reading.{IsRead, line_at, noted_label, has_blank_node, is_blank_node}
 use Rattle.nt_text.proofs.Statements.{IsStatement-from_triple, HasNoTimes-from_triple}
@@ -33,7 +30,7 @@ AreLinesOf-push (x ∷ lines) statements line brought h last = (
   ap (λ (y : List Statement). y ++ option_to_list brought) h.4 ∙ append_assoc (option_to_list h.0) h.1 (option_to_list brought),
 )
 
-brought_same : (line : List ℕ) (x y : Option Statement) → Brings line x → Brings line y → x ≡ y
+pub brought_same : (line : List ℕ) (x y : Option Statement) → Brings line x → Brings line y → x ≡ y
 brought_same line x y h k = same_Some x y (sym (line_again line x h) ∙ line_again line y k)
 
 -- lines say one thing only
@@ -44,15 +41,15 @@ AreLinesOf-same (line ∷ lines) xs ys h k =
     ∙ ap (λ (others : List Statement). option_to_list k.0 ++ others) (AreLinesOf-same lines h.1 k.1 h.3 k.3) ∙ sym k.4
 
 -- what lines say, at a line among them
-record IsCutAt (front : List (List ℕ)) (line : List ℕ) (rest : List (List ℕ)) (statements : List Statement) : Type 0 where
-  before : List Statement
-  brought : Option Statement
-  others : List Statement
-  said : AreLinesOf front before
-  brings : Brings line brought
-  whole : statements ≡ before ++ (option_to_list brought ++ others)
+pub record IsCutAt (front : List (List ℕ)) (line : List ℕ) (rest : List (List ℕ)) (statements : List Statement) : Type 0 where
+  pub before : List Statement
+  pub brought : Option Statement
+  pub others : List Statement
+  pub said : AreLinesOf front before
+  pub brings : Brings line brought
+  pub whole : statements ≡ before ++ (option_to_list brought ++ others)
 
-cut_at : (front : List (List ℕ)) (line : List ℕ) (rest : List (List ℕ)) (statements : List Statement) → AreLinesOf (front ++ line ∷ rest) statements
+pub cut_at : (front : List (List ℕ)) (line : List ℕ) (rest : List (List ℕ)) (statements : List Statement) → AreLinesOf (front ++ line ∷ rest) statements
     → IsCutAt front line rest statements
 cut_at [] line rest statements h = record { before = []; brought = h.0; others = h.1; said = refl; brings = h.2; whole = h.4 }
 cut_at (x ∷ front) line rest statements h =
@@ -72,7 +69,7 @@ All-append : (P : Statement → Type 0) (xs ys : List Statement) → AllByRecurs
 All-append P [] ys h k = k
 All-append P (x ∷ xs) ys h k = (h.0, All-append P xs ys h.1 k)
 
-All-parts : (P : Statement → Type 0) (xs ys : List Statement) → AllByRecursion P (xs ++ ys) → AllByRecursion P xs × AllByRecursion P ys
+pub All-parts : (P : Statement → Type 0) (xs ys : List Statement) → AllByRecursion P (xs ++ ys) → AllByRecursion P xs × AllByRecursion P ys
 All-parts P [] ys h = (tt, h)
 All-parts P (x ∷ xs) ys h = let rest = All-parts P xs ys h.1 in ((h.0, rest.0), rest.1)
 
@@ -233,60 +230,3 @@ SoFar-end bytes rest number first statements h nothing =
       label = label_end bytes rest number first h.label nothing;
       within = h.within;
     }
-
--- ---- faults
-
-bad_line : (bytes rest : List ℕ) (number : ℕ) (first : Option ℕ) (statements : List Statement) (line behind : List ℕ)
-    → SoFar bytes rest number first statements → lines_of Any rest ≡ line ∷ lines_of Any behind → IsLine bytes (number + 1) statements line
-bad_line bytes rest number first statements line behind h cut = record {
-  front = h.front;
-  rest = lines_of Any behind;
-  cut = h.cut ∙ ap (λ (x : List (List ℕ)). h.front ++ x) cut;
-  place = ap (λ (n : ℕ). n + 1) h.place;
-  good = h.good;
-  within = h.within;
-}
-
--- the fault of a line has its cause
-pub fault_cause : (bytes rest : List ℕ) (number : ℕ) (first : Option ℕ) (statements : List Statement) (line behind : List ℕ) (count : ℕ) (fault : DocFault)
-    → SoFar bytes rest number first statements → lines_of Any rest ≡ line ∷ lines_of Any behind → count ≡ length statements
-    → IsRead (number + 1) count (Err fault) (line_at line) → HasCause bytes fault
-fault_cause bytes rest number first statements line behind count faults.NoMemory h cut counted read = tt
-fault_cause bytes rest number first statements line behind count (faults.Line n) h cut counted read =
-    let outside : IsOutside line = λ brought brings. let again : line_at line ≡ Some brought = line_again line brought brings in let none = read.0 in cc in
-    subst (λ (k : ℕ). IsBadLine bytes k (λ s. IsOutside)) (sym read.1) (statements, line, bad_line bytes rest number first statements line behind h cut, outside)
-fault_cause bytes rest number first statements line behind count (faults.TooLong n) h cut counted read =
-    let is : IsTooLong line = (read.0.0, line_takes line (Some read.0.0) read.0.1, read.0.2) in
-    subst (λ (k : ℕ). IsBadLine bytes k (λ s. IsTooLong)) (sym read.1) (statements, line, bad_line bytes rest number first statements line behind h cut, is)
-fault_cause bytes rest number first statements line behind count (faults.TooMany n) h cut counted read =
-    let full = read.0.3 in
-    let few = h.within.few in
-    let is : IsTooMany statements line = (read.0.0, line_takes line (Some read.0.0) read.0.1, read.0.2, omega arith) in
-    subst (λ (k : ℕ). IsBadLine bytes k IsTooMany) (sym read.1) (statements, line, bad_line bytes rest number first statements line behind h cut, is)
-
--- a document's lines, at a bad one
-cut_document : (bytes : List ℕ) (number : ℕ) (statements others : List Statement) (line : List ℕ) (at : IsLine bytes number statements line) → IsDocument bytes others
-    → IsCutAt at.front line at.rest others
-cut_document bytes number statements others line at document =
-    cut_at at.front line at.rest others (subst (λ (lines : List (List ℕ)). AreLinesOf lines others) at.cut document)
-
--- and no document within limits has it but for want of memory
-pub fault_only : (bytes : List ℕ) (fault : DocFault) (others : List Statement) → HasCause bytes fault → IsDocument bytes others → AreWithinLimits others → IsNoMemory fault
-fault_only bytes faults.NoMemory others h document within = tt
-fault_only bytes (faults.Line n) others h document within =
-    let k = cut_document bytes n h.0 others h.1 h.2 document in
-    absurd (h.3 k.brought k.brings)
-fault_only bytes (faults.TooLong n) others h document within =
-    let k = cut_document bytes n h.0 others h.1 h.2 document in
-    let same : k.brought ≡ Some h.3.0 = brought_same h.1 k.brought (Some h.3.0) k.brings h.3.1 in
-    let whole : others ≡ k.before ++ (h.3.0 ∷ k.others) = k.whole ∙ ap (λ (x : Option Statement). k.before ++ (option_to_list x ++ k.others)) same in
-    let short = All-parts HasShortTerms k.before (h.3.0 ∷ k.others) (subst (λ (x : List Statement). AllByRecursion HasShortTerms x) whole within.short) in
-    absurd (h.3.2 short.1.0)
-fault_only bytes (faults.TooMany n) others h document within =
-    let k = cut_document bytes n h.0 others h.1 h.2 document in
-    let same : k.brought ≡ Some h.3.0 = brought_same h.1 k.brought (Some h.3.0) k.brings h.3.1 in
-    let whole : others ≡ k.before ++ (h.3.0 ∷ k.others) = k.whole ∙ ap (λ (x : Option Statement). k.before ++ (option_to_list x ++ k.others)) same in
-    let before : k.before ≡ h.0 = AreLinesOf-same h.2.front k.before h.0 k.said h.2.good in
-    let count = h.3.3 in
-    let few = within.few in
-    absurd (omega (arith, ap (length {A = Statement}) whole, length-append k.before (h.3.0 ∷ k.others), ap (length {A = Statement}) before))

@@ -1,5 +1,5 @@
 -- Labels of blank nodes.
-use Rattle.std.proofs.Common.{◌≡◌, ◌≢◌, ℕ, suc, ◌-◌, ◌≤◌, Bool, true, false, cond, not, ◌||◌, ◌&&◌, ◌==◌, ◌⊎◌, List, [], ◌∷◌, ◌++◌, length, take, drop, get_or, Some, None, length-take, length-append, refl, sym, ap, subst, ◌∙◌, inl, inr, arith, lit<}
+use Rattle.std.proofs.Common.{◌≡◌, ◌≢◌, ℕ, suc, ◌-◌, ◌≤◌, Bool, true, false, cond, not, ◌||◌, ◌&&◌, ◌==◌, ◌⊎◌, List, [], ◌∷◌, ◌++◌, length, take, drop, get_or, Option, Some, None, length-take, length-append, refl, sym, ap, subst, ◌∙◌, inl, inr, arith, lit<}
 use Rattle.std.specs.Prelude.{nat_le}
 use Rattle.std.specs.Char.{encode_utf8}
 use Rattle.std.specs.List.{list_all}
@@ -8,11 +8,12 @@ use Rattle.std.proofs.Math.Seq.{take-append_seam, drop-append_seam}
 use Rattle.std.proofs.lemmas.Bool.{and_parts, and_from, or_cases, or_left, or_right, not-true, not_from_false, eqb-false, ne_eqb, le-leb, cond-true, cond-false}
 use Rattle.std.proofs.lemmas.Bool.Decides.{nat_tests}
 use Rattle.std.proofs.lemmas.List.{append-nil, take-append-drop, take-append-le}
+use Rattle.std.proofs.lemmas.Option.{cond_some}
 use Rattle.std.proofs.lemmas.Str.{encode_ascii, chars-encodes, length-encode, len_utf8_bounds, IsUtf8-from_is_utf8, is_utf8-from_IsUtf8}
 use Rattle.term_core.specs.declared.term.Term.TheVariants.{Blank}
 use Rattle.term_core.specs.Characters.{is_digit, is_base_character, is_start_character, is_name_character}
 use Rattle.term_core.specs.Term.{EndsWithoutDot, AreLabelCharacters, IsLabel}
-use Rattle.nt_text.specs.Reading.{run, behind_run, ends_with_dot, without_dot, is_label_byte, is_label_character, begins_label, is_label, labelled, node_at}
+use Rattle.nt_text.specs.Reading.{run, behind_run, ends_with_dot, without_dot, is_label_byte, is_label_character, begins_label, is_label, whole_label, labelled, node_at, utf8_text}
 use Rattle.nt_text.proofs.Encoded.{encode_passes, text_passes}
 use Rattle.nt_text.proofs.PieceTexts.{other_than}
 use Rattle.nt_text.proofs.Runs.{run_parts, run-append}
@@ -185,6 +186,30 @@ label_again label h =
     and_from (is_utf8 label) (begins_label (chars label) && (list_all is_label_character (chars label) && not (ends_with_dot label))) (is_utf8-from_IsUtf8 label h.utf8)
     (and_from (begins_label (chars label)) (list_all is_label_character (chars label) && not (ends_with_dot label)) shaped.begins
     (and_from (list_all is_label_character (chars label)) (not (ends_with_dot label)) shaped.each (not_from_false (ends_with_dot label) (label_end label h))))
+
+-- the bytes are a label where they are text, and the text is one
+pub whole_label-takes : (bytes text : List ℕ) → utf8_text bytes ≡ Some text → IsLabel text → whole_label bytes ≡ Some text
+whole_label-takes bytes text is h =
+    let same : bytes ≡ text = (cond_some (is_utf8 bytes) bytes text is).1 in
+    cond-true (is_label bytes) (Some bytes) None (label_again bytes (subst IsLabel (sym same) h)) ∙ ap (λ (x : List ℕ). Some x) same
+
+none_whole : (label : List ℕ) → (IsLabel label → ⊥) → whole_label label ≡ None
+none_whole label none = by (is_label label) refl
+  where
+    by : (is : Bool) → is_label label ≡ is → cond is (Some label) None ≡ None
+    by true e = absurd (none (label_takes label e))
+    by false e = refl
+
+pub whole_label-other : (bytes text : List ℕ) → utf8_text bytes ≡ Some text → (IsLabel text → ⊥) → whole_label bytes ≡ None
+whole_label-other bytes text is none =
+    let same : bytes ≡ text = (cond_some (is_utf8 bytes) bytes text is).1 in
+    none_whole bytes (λ h. none (subst IsLabel same h))
+
+pub whole_label-no_text : (bytes : List ℕ) → utf8_text bytes ≡ None → whole_label bytes ≡ None
+whole_label-no_text bytes none = none_whole bytes (λ h. by (is_utf8-from_IsUtf8 bytes h.utf8))
+  where
+    by : is_utf8 bytes ≡ true → ⊥
+    by e = let some : utf8_text bytes ≡ Some bytes = cond-true (is_utf8 bytes) (Some bytes) None e in cc
 
 -- ---- a label among other bytes
 

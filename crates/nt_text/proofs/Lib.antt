@@ -10,4 +10,6 @@ pub mod Triples
 pub mod Statements
 pub mod Documents
 pub mod Iris
-pub mod Irirefs
+pub mod BadLines
+pub mod Cells
+pub mod SpelledLengths

@@ -5,6 +5,7 @@ use Rattle.std.specs.Cmp.Lexicographic.{pointwise}
 use Rattle.std.specs.Fmt.{decimal}
 use Rattle.term_core.specs.declared.term.Term.{Term}
 use Rattle.term_core.specs.declared.term.Term.TheVariants.{Iri, Literal, Tagged, Blank}
+use Rattle.term_core.specs.Term.{IsTerm}
 
 -- the byte, escaped where a STRING_LITERAL_QUOTE may not hold it, and the tab: \" \\ \n \r \t
 abbrev pub escaped_byte : ℕ → List ℕ
@@ -38,3 +39,8 @@ cell (Blank at label) = codes "_:c" ++ decimal at ++ 46 ∷ label
 abbrev pub cell_of : Option Term → List ℕ
 cell_of None = []
 cell_of (Some term) = cell term
+
+-- a cell is empty, or that of a term whose parts keep their rules
+abbrev pub IsCell : Option Term → Type 0
+IsCell None = Unit {0}
+IsCell (Some term) = IsTerm term

@@ -4,11 +4,11 @@ use Rattle.std.specs.Char.{to_ascii_lowercase}
 use Rattle.std.specs.List.{list_all}
 use Rattle.std.specs.Option.{option_to_list}
 use Rattle.std.specs.Str.{IsUtf8}
-use Rattle.term_core.specs.declared.lines.LineEnd.TheVariants.{Any}
+use Rattle.base_core.specs.declared.lines.LineEnd.TheVariants.{Any}
 use Rattle.term_core.specs.declared.term.Term.{Term}
 use Rattle.term_core.specs.declared.term.Term.TheVariants.{Iri, Literal, Tagged, Blank}
 use Rattle.term_core.specs.declared.statement.Statement.{Statement}
-use Rattle.term_core.specs.Lines.{lines_of}
+use Rattle.base_core.specs.Lines.{lines_of}
 use Rattle.term_core.specs.Term.{IsTag, IsLabel, MayBeSubject, MayBePredicate}
 use Rattle.nt_text.specs.declared.pieces.Between.TheVariants.{Brackets, Quotes}
 use Rattle.nt_text.specs.Cell.{xsd_string}

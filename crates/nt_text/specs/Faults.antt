@@ -1,12 +1,12 @@
 -- When each fault of a document comes.
-use Rattle.std.specs.Prelude.{◌≡◌, ℕ, ◌+◌, List, ◌∷◌, ◌++◌, length, Option, Some}
-use Rattle.term_core.specs.declared.lines.LineEnd.TheVariants.{Any}
+use Rattle.std.specs.Prelude.{◌≡◌, ℕ, ◌+◌, ◌⊎◌, List, ◌∷◌, ◌++◌, length, Option, Some}
+use Rattle.base_core.specs.declared.lines.LineEnd.TheVariants.{Any}
 use Rattle.term_core.specs.declared.statement.Statement.{Statement}
-use Rattle.term_core.specs.Lines.{lines_of}
+use Rattle.base_core.specs.Lines.{lines_of}
 use Rattle.nt_text.specs.declared.document.DocFault.{DocFault}
 use Rattle.nt_text.specs.declared.document.DocFault.TheVariants as faults
 use Rattle.nt_text.specs.Document.{Brings, AreLinesOf}
-use Rattle.nt_text.specs.Limits.{HasShortTerms, AreWithinLimits}
+use Rattle.nt_text.specs.Limits.{HasShortTerms, AreWithinLimits, most_statements}
 
 abbrev pub IsNoMemory : DocFault → Type 0
 IsNoMemory faults.NoMemory = Unit {0}
@@ -33,15 +33,23 @@ IsTooLong line = (statement : Statement) × Brings line (Some statement) × (Has
 
 -- it brings one statement too many, which is none too long
 abbrev pub IsTooMany : List Statement → List ℕ → Type 0
-IsTooMany statements line = (statement : Statement) × Brings line (Some statement) × HasShortTerms statement × (length statements ≡ 100000)
+IsTooMany statements line = (statement : Statement) × Brings line (Some statement) × HasShortTerms statement × (length statements ≡ most_statements)
 
--- the line of this number is the first that is bad, and this is what is bad about it
+-- the line of this number stands behind good lines, and this is bad about it
 abbrev pub IsBadLine : List ℕ → ℕ → (List Statement → List ℕ → Type 0) → Type 0
 IsBadLine bytes number IsBad = (statements : List Statement) × (line : List ℕ) × IsLine bytes number statements line × IsBad statements line
 
--- want of memory comes freely; a line is named where it is the first bad one, by the first fault that it has
-abbrev pub HasCause : List ℕ → DocFault → Type 0
-HasCause bytes faults.NoMemory = Unit {0}
-HasCause bytes (faults.Line line) = IsBadLine bytes line (λ statements. IsOutside)
-HasCause bytes (faults.TooLong line) = IsBadLine bytes line (λ statements. IsTooLong)
-HasCause bytes (faults.TooMany line) = IsBadLine bytes line IsTooMany
+-- the fault names the first line that is bad, by the first fault that it has
+abbrev pub IsFirstBadLine : List ℕ → DocFault → Type 0
+IsFirstBadLine bytes faults.NoMemory = ⊥
+IsFirstBadLine bytes (faults.Line line) = IsBadLine bytes line (λ statements. IsOutside)
+IsFirstBadLine bytes (faults.TooLong line) = IsBadLine bytes line (λ statements. IsTooLong)
+IsFirstBadLine bytes (faults.TooMany line) = IsBadLine bytes line IsTooMany
+
+-- want of memory comes freely
+abbrev pub IsDocumentFault : List ℕ → DocFault → Type 0
+IsDocumentFault bytes fault = IsNoMemory fault ⊎ IsFirstBadLine bytes fault
+
+-- want of memory, or this fault
+abbrev pub IsNoMemoryOr : DocFault → DocFault → Type 0
+IsNoMemoryOr fault found = IsNoMemory found ⊎ (found ≡ fault)

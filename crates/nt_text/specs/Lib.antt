@@ -2,6 +2,5 @@ pub mod Cell
 pub mod Document
 pub mod Escapes
 pub mod Faults
-pub mod Iriref
 pub mod Limits
 pub mod Reading

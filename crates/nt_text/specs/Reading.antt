@@ -1,4 +1,4 @@
--- Reading from left to right, as the code does. What is read is what `Document` says: the laws stand in proofs/.
+-- Private: reading from left to right, as the code does. What is read is what `Document` says: the laws stand in proofs/.
 use Rattle.std.specs.Prelude.{◌≡◌, ℕ, zero, suc, ◌-◌, ◌+◌, ◌*◌, ◌<◌, ◌≤◌, Bool, true, false, ◌&&◌, ◌||◌, not, List, [], ◌∷◌, ◌++◌, map, length, take, drop, slice_index, Option, Some, None, option_and_then, Result, Ok, Err, ◌==◌, nat_le, if◌then◌else◌}
 use Rattle.std.specs.Char.{to_ascii_lowercase, encode_utf8}
 use Rattle.std.specs.List.{list_all}
@@ -24,16 +24,16 @@ use Rattle.nt_text.specs.declared.line.Triple.{Triple}
 use Rattle.nt_text.specs.Cell.{xsd_string}
 use Rattle.nt_text.specs.Document.{is_white}
 use Rattle.nt_text.specs.Escapes.{Piece, Itself, Echar, is_piece, is_plain, is_named, are_four_digits, number_of_four, meaning, opening, closing}
-use Rattle.nt_text.specs.Limits.{HasShortTerms}
+use Rattle.nt_text.specs.Limits.{HasShortTerms, most_statements}
 
 infixl 10 ◌>>=◌
 abbrev pub ◌>>=◌ : {A B : Type 0} → Option A → (A → Option B) → Option B
 o >>= f = option_and_then f o
 
 -- What a function returned, seen by view, is what reading gives.
-abbrev pub Reads : {X Y : Type 0} → (X → Y) → Option X → Option Y → Type 0
-Reads view None read = read ≡ None
-Reads view (Some x) read = read ≡ Some (view x)
+abbrev pub ReadsFront : {X Y : Type 0} → (X → Y) → Option X → Option Y → Type 0
+ReadsFront view None read = read ≡ None
+ReadsFront view (Some x) read = read ≡ Some (view x)
 
 -- the bytes as text
 abbrev pub utf8_text : List ℕ → Option (List ℕ)
@@ -67,16 +67,6 @@ run test (b ∷ bytes) = if test b then b ∷ run test bytes else []
 abbrev pub behind_run : (ℕ → Bool) → List ℕ → List ℕ
 behind_run test [] = []
 behind_run test (b ∷ bytes) = if test b then behind_run test bytes else b ∷ bytes
-
--- ---- an IRIREF without escapes: its text and the bytes behind it
-
-abbrev pub closed_iri : List ℕ → List ℕ → Option (List ℕ × List ℕ)
-closed_iri iri [] = None
-closed_iri iri (b ∷ behind) = if b == 62 && is_utf8 iri then Some (iri, behind) else None
-
-unfoldable pub iri_at : List ℕ → Option (List ℕ × List ℕ)
-iri_at [] = None
-iri_at (b ∷ inside) = if b == 60 then closed_iri (run is_iri_character inside) (behind_run is_iri_character inside) else None
 
 -- ---- pieces of a text
 
@@ -303,13 +293,13 @@ Makes view (Some a) good b = (good ≡ true) × (view a ≡ b)
 -- what a line of this number gave, behind so many statements, is what reading gives, unless memory ran out
 abbrev pub IsRead : ℕ → ℕ → Result (Option Statement) DocFault → Option (Option Statement) → Type 0
 IsRead number count (Ok None) read = read ≡ Some None
-IsRead number count (Ok (Some statement)) read = (read ≡ Some (Some statement)) × HasShortTerms statement × (count < 100000)
+IsRead number count (Ok (Some statement)) read = (read ≡ Some (Some statement)) × HasShortTerms statement × (count < most_statements)
 IsRead number count (Err faults.NoMemory) read = Unit {0}
 IsRead number count (Err (faults.Line line)) read = (read ≡ None) × (line ≡ number)
 IsRead number count (Err (faults.TooLong line)) read =
     ((statement : Statement) × (read ≡ Some (Some statement)) × (HasShortTerms statement → ⊥)) × (line ≡ number)
 IsRead number count (Err (faults.TooMany line)) read =
-    ((statement : Statement) × (read ≡ Some (Some statement)) × HasShortTerms statement × (100000 ≤ count)) × (line ≡ number)
+    ((statement : Statement) × (read ≡ Some (Some statement)) × HasShortTerms statement × (most_statements ≤ count)) × (line ≡ number)
 
 -- ---- blank nodes
 

@@ -1,11 +1,12 @@
 //! Writing terms as cells.
-ghost use Rattle.std.specs.Prelude.{◌≡◌, ◌++◌, IfOk, OnOk, OnErr};
+ghost use Rattle.std.specs.Prelude.{◌≡◌, ◌++◌, OnOk, OnErr};
 ghost use Rattle.std.specs.List.{flat_map};
-ghost use Rattle.term_core.specs.declared.term.Term.TheVariants.{Blank};
+ghost use Rattle.term_core.specs.declared.term.Term.TheVariants.{Literal, Tagged, Blank};
 ghost use Rattle.nt_text.specs.Cell.{cell, quoted, bracketed, escaped_byte, datatype_mark, is_string};
 
+use base_core::Want;
 use std::alloc::Global;
-use term_core::{Term, Want};
+use term_core::Term;
 
 const XSD_STRING: &str = "http://www.w3.org/2001/XMLSchema#string";
 
@@ -15,30 +16,40 @@ pub fn write_term(alloc: Global, term: &Term, out: &mut Vec<u8>) -> Result<(), W
     ensures ok { OnOk result (out.new.items ≡ out.old.items ++ cell term.now) }
     ensures err { OnErr result (out.new.items ≡ out.old.items) }
 {
-    let made = cell_of_term(alloc, term)?;
+    let mut made = Vec::new(alloc);
+    put_term(alloc, term, &mut made)?;
     out.extend_from_slice(&made)?;
     Ok(())
 }
 
-/// The cell by itself, so that nothing is appended where memory runs out on the way.
-fn cell_of_term(alloc: Global, term: &Term) -> Result<Vec<u8>, Want>
-    ensures { IfOk result (λ made. made.items ≡ cell term.now) }
+/// The same in place. After a want of memory a part of the cell may stand there.
+pub fn put_term(alloc: Global, term: &Term, out: &mut Vec<u8>) -> Result<(), Want>
+    ensures { OnOk result (out.new.items ≡ out.old.items ++ cell term.now) }
 {
-    let mut made = Vec::new(alloc);
     match term {
-        Term::Iri(iri) => put_bracketed(iri.text(), &mut made)?,
-        Term::Literal { form, datatype } => {
-            put_quoted(form.text(), &mut made)?;
-            put_datatype(datatype.text(), &mut made)?;
-        }
-        Term::Tagged { form, tag } => {
-            put_quoted(form.text(), &mut made)?;
-            made.push(b'@')?;
-            made.extend_from_slice(tag.text().as_bytes())?;
-        }
-        Term::Blank { at, label } => put_blank(alloc, *at, label.text(), &mut made)?,
+        Term::Iri(iri) => put_bracketed(iri.text(), out),
+        Term::Literal { form, datatype } => put_literal(form.text(), datatype.text(), out),
+        Term::Tagged { form, tag } => put_tagged(form.text(), tag.text(), out),
+        Term::Blank { at, label } => put_blank(alloc, *at, label.text(), out),
     }
-    Ok(made)
+}
+
+/// STRING_LITERAL_QUOTE, and `^^` and an IRIREF where the literal isn't plain
+fn put_literal(form: &str, datatype: &str, out: &mut Vec<u8>) -> Result<(), Want>
+    ensures { OnOk result (out.new.items ≡ out.old.items ++ cell (Literal form.now datatype.now)) }
+{
+    put_quoted(form, out)?;
+    put_datatype(datatype, out)
+}
+
+/// STRING_LITERAL_QUOTE LANGTAG
+fn put_tagged(form: &str, tag: &str, out: &mut Vec<u8>) -> Result<(), Want>
+    ensures { OnOk result (out.new.items ≡ out.old.items ++ cell (Tagged form.now tag.now)) }
+{
+    put_quoted(form, out)?;
+    out.push(b'@')?;
+    out.extend_from_slice(tag.as_bytes())?;
+    Ok(())
 }
 
 /// IRIREF

@@ -1,24 +1,22 @@
 //! Reading N-Triples documents.
-ghost use Rattle.std.specs.Prelude.{◌≡◌, ◌≤◌, ◌++◌, List, length, IfOk, IfErr, OnOk, MatchResult};
+ghost use Rattle.std.specs.Prelude.{◌≡◌, ◌≤◌, ◌+◌, ◌*◌, ◌++◌, List, length, IfOk, IfErr, IsErrAnd, OnOk, MatchResult};
 ghost use Rattle.std.specs.List.{AllByRecursion};
 ghost use Rattle.std.specs.Option.{option_to_list};
-ghost use Rattle.term_core.specs.declared.lines.LineEnd.TheVariants.{Any};
+ghost use Rattle.base_core.specs.declared.lines.LineEnd.TheVariants.{Any};
 ghost use Rattle.term_core.specs.declared.statement.Statement.{Statement as Triple};
-ghost use Rattle.term_core.specs.Lines.{lines_of};
+ghost use Rattle.base_core.specs.Lines.{lines_of};
 ghost use Rattle.term_core.specs.Term.{IsStatement};
 ghost use Rattle.nt_text.specs.declared.document.DocFault.TheVariants.{NoMemory};
 ghost use Rattle.nt_text.specs.Document.{IsDocument, IsFirstLabel, HasNoTimes};
-ghost use Rattle.nt_text.specs.Faults.{HasCause, IsNoMemory};
-ghost use Rattle.nt_text.specs.Limits.{AreWithinLimits};
+ghost use Rattle.nt_text.specs.Faults.{IsDocumentFault, IsFirstBadLine, IsNoMemory, IsNoMemoryOr};
+ghost use Rattle.nt_text.specs.Limits.{AreWithinLimits, all_spelled, largest_document, most_spelled};
 ghost use Rattle.nt_text.specs.Reading.{IsRead, line_at, noted_label, has_blank_node, is_blank_node};
 
-use crate::limits::has_short_terms;
+use crate::limits::{MOST_STATEMENTS, has_short_terms};
 use crate::line::{Line, read_line};
+use base_core::{LineEnd, List, Want, first_line};
 use std::alloc::Global;
-use term_core::{LineEnd, List, Statement, Term, Want, first_line};
-
-/// How many statements a document may have.
-const MOST: usize = 100000;
+use term_core::{Statement, Term};
 
 /// What a document says.
 #[derive(Debug, Drop)]
@@ -51,17 +49,23 @@ impl From<Want> for DocFault {
 
 /// Reads a document: RDF 1.1 N-Triples, section 2.
 pub fn read_document(alloc: Global, bytes: &[u8]) -> Result<Document, DocFault>
-    requires { length bytes.now ≤ 33554432 }
+    requires { length bytes.now ≤ largest_document }
     // What is read is what the document says.
     ensures found { IfOk result (λ document. IsDocument bytes.now document.statements) }
     ensures label { IfOk result (λ document. IsFirstLabel (lines_of Any bytes.now) 1 document.first_label) }
     ensures statements { IfOk result (λ document. AllByRecursion IsStatement document.statements) }
     ensures times { IfOk result (λ document. AllByRecursion HasNoTimes document.statements) }
     ensures few { IfOk result (λ document. AreWithinLimits document.statements) }
+    // A plain literal has 42 bytes more in its spelling than in its token, and a subject 7; an IRI has one less, and
+    // the full stop is one more.
+    ensures spelled { IfOk result (λ document. all_spelled document.statements ≤ length bytes.now + 47 * length document.statements) }
+    ensures size { IfOk result (λ document. all_spelled document.statements ≤ most_spelled) }
     // A document says nothing else.
     ensures only { (statements : List Triple) → IsDocument bytes.now statements → AreWithinLimits statements →
         MatchResult result (λ document. document.statements ≡ statements) IsNoMemory }
-    ensures fault { IfErr result (HasCause bytes.now) }
+    ensures fault { IfErr result (IsDocumentFault bytes.now) }
+    // Bytes with a bad line are refused for the first one, or memory ran out.
+    ensures bad { (fault : DocFault) → IsFirstBadLine bytes.now fault → IsErrAnd result (IsNoMemoryOr fault) }
 {
     let mut statements = Vec::new(alloc);
     let mut first_label = None;
@@ -107,7 +111,7 @@ fn admitted(statement: Statement, number: u32, count: usize) -> Result<Option<St
     if !has_short_terms(&statement) {
         return Err(DocFault::TooLong { line: number });
     }
-    if count >= MOST {
+    if count >= MOST_STATEMENTS {
         return Err(DocFault::TooMany { line: number });
     }
     Ok(Some(statement))

@@ -3,7 +3,6 @@
 
 mod cell;
 mod document;
-mod iriref;
 mod label;
 mod limits;
 mod line;
@@ -13,9 +12,9 @@ mod tag;
 mod token;
 mod utf8;
 
-pub use cell::write_term;
+pub use cell::{put_term, write_term};
 pub use document::{DocFault, Document, read_document};
-pub use iriref::read_iriref;
+pub use limits::{LARGEST_DOCUMENT, LONGEST_SPELLING, MOST_STATEMENTS};
 
 #[cfg(test)]
 mod tests;

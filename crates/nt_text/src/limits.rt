@@ -1,11 +1,17 @@
-//! What is too much for one document.
+//! What is too much for one document. Contracts name these limits by the words of `specs/Limits.antt`.
 ghost use Rattle.std.specs.Prelude.{◌≡◌, ◌↔◌, ◌+◌, ◌≤◌, IsTrue};
-ghost use Rattle.nt_text.specs.Limits.{IsShort, HasShortTerms};
+ghost use Rattle.nt_text.specs.Limits.{IsShort, HasShortTerms, longest_spelling};
 
 use term_core::{Statement, Term};
 
+/// How many bytes a document may have.
+pub const LARGEST_DOCUMENT: usize = 33554432;
+
+/// How many statements a document may have.
+pub const MOST_STATEMENTS: usize = 100000;
+
 /// How many bytes the spelling of a term may have.
-const LONGEST: usize = 65535;
+pub const LONGEST_SPELLING: usize = 65535;
 
 /// Whether no term of the statement is too long.
 pub fn has_short_terms(statement: &Statement) -> bool
@@ -27,7 +33,7 @@ fn is_short(term: &Term) -> bool
 
 /// Whether a spelling of these parts is short enough.
 fn is_within(front: usize, first: usize, second: usize) -> bool
-    ensures { IsTrue result ↔ (front + first + second ≤ 65535) }
+    ensures { IsTrue result ↔ (front + first + second ≤ longest_spelling) }
 {
-    front.saturating_add(first).saturating_add(second) <= LONGEST
+    front.saturating_add(first).saturating_add(second) <= LONGEST_SPELLING
 }

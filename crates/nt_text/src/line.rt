@@ -1,13 +1,14 @@
 //! Reading one line (RDF 1.1 N-Triples, section 7).
 ghost use Rattle.std.specs.Prelude.{◌≡◌, IfOk};
 ghost use Rattle.std.specs.Str.{is_utf8};
-ghost use Rattle.nt_text.specs.Reading.{Reads, Makes, is_stop, is_comment, statement_of, are_texts, brought, triple_at, form_at};
+ghost use Rattle.nt_text.specs.Reading.{ReadsFront, Makes, is_stop, is_comment, statement_of, are_texts, brought, triple_at, form_at};
 
 use crate::run::skip_white;
 use crate::token::{Token, read_iri_ref, read_object, read_subject};
 use crate::utf8::as_text;
+use base_core::Want;
 use std::alloc::Global;
-use term_core::{Statement, Want};
+use term_core::Statement;
 
 /// What a line says.
 #[derive(Clone, Copy)]
@@ -51,7 +52,7 @@ impl Triple<'_> {
 /// comment may stand alone.
 #[tactic(auto, unfolding(crate::specs::Reading::form_at))]
 pub fn read_line(bytes: &[u8]) -> Option<Line<'_>>
-    ensures { Reads brought result (form_at bytes.now) }
+    ensures { ReadsFront brought result (form_at bytes.now) }
 {
     let rest = skip_white(bytes);
     let Some((first, text)) = rest.split_first() else {
@@ -71,7 +72,7 @@ pub fn read_line(bytes: &[u8]) -> Option<Line<'_>>
 /// `triple ::= subject predicate object '.'`, with white space between and behind, and a comment at most.
 #[tactic(auto, unfolding(crate::specs::Reading::triple_at))]
 fn read_triple(bytes: &[u8]) -> Option<Triple<'_>>
-    ensures { Reads statement_of result (triple_at bytes.now) }
+    ensures { ReadsFront statement_of result (triple_at bytes.now) }
 {
     let (subject, rest) = read_subject(bytes)?;
     let (predicate, rest) = read_iri_ref(skip_white(rest))?;

@@ -3,12 +3,13 @@ ghost use Rattle.std.specs.Prelude.{◌≡◌, ◌++◌, ◌<◌, IfOk, IfSome, 
 ghost use Rattle.std.specs.Char.{digit_value, is_ascii_hexdigit};
 ghost use Rattle.std.specs.Str.{is_utf8};
 ghost use Rattle.nt_text.specs.Escapes.{is_plain, is_letter_of_escape, escaped, are_four_digits};
-ghost use Rattle.nt_text.specs.Reading.{Reads, part_meaning, piece_at, escape_at, four_at, uchar4_at, uchar8_at, named, text_at, text_of, Makes, IsPlainClass};
+ghost use Rattle.nt_text.specs.Reading.{ReadsFront, part_meaning, piece_at, escape_at, four_at, uchar4_at, uchar8_at, named, text_at, text_of, Makes, IsPlainClass};
 
-use crate::run::{Class, cut_run, is_iri_byte, is_quoted_byte};
+use crate::run::{Class, cut_run, is_quoted_byte};
 use crate::utf8::text_from;
+use base_core::{Text, Want};
 use std::alloc::Global;
-use term_core::{Text, Want, is_iri_character};
+use term_core::is_iri_character;
 
 /// What a text stands between: an IRI's brackets or a string's quotes.
 #[derive(Clone, Copy)]
@@ -83,10 +84,11 @@ fn put_part(part: Part, out: &mut Vec<u8>) -> Result<(), Want>
     Ok(())
 }
 
-/// The first piece of a text, and the bytes behind it.
+/// The first piece of a text, and the bytes behind it: in brackets ``[^#x00-#x20<>"{}|^`\] | UCHAR``, and in quotes
+/// `[^#x22#x5C#xA#xD] | ECHAR | UCHAR`.
 #[tactic(auto, unfolding(crate::specs::Reading::piece_at))]
 fn read_piece(bytes: &[u8], between: Between) -> Option<(Part, &[u8])>
-    ensures { Reads (λ found. (part_meaning found.0, found.1.now)) result (piece_at between bytes.now) }
+    ensures { ReadsFront (λ found. (part_meaning found.0, found.1.now)) result (piece_at between bytes.now) }
 {
     let Some((first, behind)) = bytes.split_first() else {
         return None;
@@ -101,12 +103,13 @@ fn read_piece(bytes: &[u8], between: Between) -> Option<(Part, &[u8])>
     }
 }
 
+/// What may stand as itself.
 #[tactic(auto, unfolding(crate::specs::Escapes::is_plain))]
 fn is_plain(byte: u8, between: Between) -> bool
     ensures { result ≡ is_plain between byte }
 {
     match between {
-        Between::Brackets => is_iri_byte(byte),
+        Between::Brackets => is_iri_character(byte as char),
         Between::Quotes => is_quoted_byte(byte),
     }
 }
@@ -114,7 +117,7 @@ fn is_plain(byte: u8, between: Between) -> bool
 /// An ECHAR or a UCHAR behind its backslash.
 #[tactic(auto, unfolding(crate::specs::Reading::escape_at))]
 fn read_escape(bytes: &[u8], between: Between) -> Option<(Part, &[u8])>
-    ensures { Reads (λ found. (part_meaning found.0, found.1.now)) result (escape_at between bytes.now) }
+    ensures { ReadsFront (λ found. (part_meaning found.0, found.1.now)) result (escape_at between bytes.now) }
 {
     let Some((letter, behind)) = bytes.split_first() else {
         return None;
@@ -146,6 +149,7 @@ fn is_letter_of_escape(letter: u8, between: Between) -> bool
     }
 }
 
+/// What the letter of an ECHAR means.
 fn escaped(letter: u8) -> u8
     ensures { result ≡ escaped letter }
 {
@@ -162,7 +166,7 @@ fn escaped(letter: u8) -> u8
 /// `UCHAR ::= '\u' HEX HEX HEX HEX`, behind its letter.
 #[tactic(auto, unfolding(crate::specs::Reading::uchar4_at))]
 fn read_uchar4(bytes: &[u8], between: Between) -> Option<(Part, &[u8])>
-    ensures { Reads (λ found. (part_meaning found.0, found.1.now)) result (uchar4_at between bytes.now) }
+    ensures { ReadsFront (λ found. (part_meaning found.0, found.1.now)) result (uchar4_at between bytes.now) }
 {
     let (number, behind) = read_four(bytes)?;
     let character = named(number, between)?;
@@ -172,7 +176,7 @@ fn read_uchar4(bytes: &[u8], between: Between) -> Option<(Part, &[u8])>
 /// `UCHAR ::= '\U' HEX HEX HEX HEX HEX HEX HEX HEX`, behind its letter.
 #[tactic(auto, unfolding(crate::specs::Reading::uchar8_at))]
 fn read_uchar8(bytes: &[u8], between: Between) -> Option<(Part, &[u8])>
-    ensures { Reads (λ found. (part_meaning found.0, found.1.now)) result (uchar8_at between bytes.now) }
+    ensures { ReadsFront (λ found. (part_meaning found.0, found.1.now)) result (uchar8_at between bytes.now) }
 {
     let (high, behind) = read_four(bytes)?;
     let (low, behind) = read_four(behind)?;
@@ -183,7 +187,7 @@ fn read_uchar8(bytes: &[u8], between: Between) -> Option<(Part, &[u8])>
 /// The number of four hexadecimal digits, and the bytes behind them.
 #[tactic(auto, unfolding(crate::specs::Reading::four_at))]
 fn read_four(bytes: &[u8]) -> Option<(u32, &[u8])>
-    ensures number { Reads (λ found. (found.0, found.1.now)) result (four_at bytes.now) }
+    ensures number { ReadsFront (λ found. (found.0, found.1.now)) result (four_at bytes.now) }
     ensures small { IfSome result (λ found. found.0 < 65536) }
 {
     let [a, b, c, d, behind @ ..] = bytes else {
@@ -197,6 +201,7 @@ fn read_four(bytes: &[u8]) -> Option<(u32, &[u8])>
     Some((number, behind))
 }
 
+/// `HEX ::= [0-9] | [A-F] | [a-f]`, four times.
 fn are_four_digits(a: u8, b: u8, c: u8, d: u8) -> bool
     ensures { result ≡ are_four_digits a b c d }
 {
@@ -217,7 +222,7 @@ fn digit_value(digit: u8) -> u32
 /// The character of this number, where a UCHAR may name it.
 #[tactic(auto, unfolding(crate::specs::Escapes::is_named))]
 fn named(number: u32, between: Between) -> Option<char>
-    ensures { Reads (λ c. c) result (named between number) }
+    ensures { ReadsFront (λ c. c) result (named between number) }
 {
     let character = char::from_u32(number)?;
     match between {

@@ -1,10 +1,11 @@
 //! Runs of bytes of one class.
 ghost use Rattle.std.specs.Prelude.{◌≡◌};
-ghost use Rattle.term_core.specs.Characters.{is_iri_character, is_name_character};
 ghost use Rattle.nt_text.specs.declared.pieces.Between.TheVariants.{Quotes};
 ghost use Rattle.nt_text.specs.Document.{is_white};
 ghost use Rattle.nt_text.specs.Escapes.{is_plain};
 ghost use Rattle.nt_text.specs.Reading.{is_of, run, behind_run, is_label_byte, is_tag_byte};
+
+use term_core::{is_iri_character, is_name_character};
 
 /// A class of bytes that stand in a run.
 #[derive(Clone, Copy)]
@@ -46,24 +47,14 @@ fn is_of_class(byte: u8, class: Class) -> bool
 {
     match class {
         Class::White => byte == b' ' || byte == b'\t',
-        Class::IriCharacter => is_iri_byte(byte),
+        Class::IriCharacter => is_iri_character(byte as char),
         Class::QuotedCharacter => is_quoted_byte(byte),
         Class::LabelCharacter => is_label_byte(byte),
         Class::TagCharacter => byte.is_ascii_alphanumeric() || byte == b'-',
     }
 }
 
-#[tactic(auto, unfolding(term_core::specs::Characters::is_iri_character))]
-pub fn is_iri_byte(byte: u8) -> bool
-    ensures { result ≡ is_iri_character byte }
-{
-    match byte {
-        0..=b' ' => false,
-        b'<' | b'>' | b'"' | b'{' | b'}' | b'|' | b'^' | b'`' | b'\\' => false,
-        _ => true,
-    }
-}
-
+/// What may stand as itself in a `STRING_LITERAL_QUOTE`: `[^#x22#x5C#xA#xD]`.
 #[tactic(auto, unfolding(crate::specs::Escapes::is_plain))]
 pub fn is_quoted_byte(byte: u8) -> bool
     ensures { result ≡ is_plain Quotes byte }
@@ -71,9 +62,10 @@ pub fn is_quoted_byte(byte: u8) -> bool
     !matches!(byte, b'"' | b'\\' | b'\n' | b'\r')
 }
 
+/// `PN_CHARS | '.'`, where each byte beyond ASCII counts: the whole is tested later.
 #[tactic(auto, unfolding(crate::specs::Reading::is_label_byte))]
 fn is_label_byte(byte: u8) -> bool
     ensures { result ≡ is_label_byte byte }
 {
-    byte >= 128 || term_core::is_name_character(byte as char) || byte == b'.'
+    byte >= 128 || is_name_character(byte as char) || byte == b'.'
 }

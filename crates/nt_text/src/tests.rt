@@ -1,7 +1,8 @@
 use super::*;
+use base_core::{Text, Want};
 use std::alloc::Global;
 use std::test::Fail;
-use term_core::{Term, Text, Want};
+use term_core::Term;
 
 fn iri(alloc: Global, text: &str) -> Result<Term, Want> {
     Ok(Term::Iri(Text::of(alloc, text)?))
@@ -60,7 +61,7 @@ fn terms_are_printed(rt: HostRuntime) -> Result<(), Fail> {
 
 /// The document, where the bytes are few enough.
 fn document_of(alloc: Global, bytes: &[u8]) -> Result<Document, DocFault> {
-    if bytes.len() > 33554432 {
+    if bytes.len() > LARGEST_DOCUMENT {
         return Err(DocFault::NoMemory);
     }
     read_document(alloc, bytes)
@@ -241,13 +242,5 @@ fn too_many_statements_are_named(rt: HostRuntime) -> Result<(), Fail> {
         read(alloc, &bytes),
         Err(DocFault::TooMany { line: 100001 })
     );
-    Ok(())
-}
-
-#[test]
-fn an_iri_is_read_by_itself(rt: HostRuntime) -> Result<(), Fail> {
-    let found = read_iriref(rt.alloc(), b"<a:a>")?.ok_or("it is an IRI")?;
-    assert_eq!(rt; found.text(), "a:a");
-    assert!(rt; read_iriref(rt.alloc(), b"<a:a> ")?.is_none());
     Ok(())
 }

@@ -6,15 +6,16 @@ ghost use Rattle.term_core.specs.declared.term.Term.TheVariants.{Iri, Literal, T
 ghost use Rattle.nt_text.specs.declared.pieces.Between.TheVariants.{Brackets, Quotes};
 ghost use Rattle.nt_text.specs.Cell.{xsd_string};
 ghost use Rattle.nt_text.specs.Escapes.{opening, closing};
-ghost use Rattle.nt_text.specs.Reading.{Reads, Makes, enclosed_at, iriref_at, node_at, behind_colon, labelled, without_dot, run, is_label_byte, literal_at, mark_at, typed, tagged, subject_at, object_at, term_of, text_of, has_texts};
+ghost use Rattle.nt_text.specs.Reading.{ReadsFront, Makes, enclosed_at, iriref_at, node_at, behind_colon, labelled, without_dot, run, is_label_byte, literal_at, mark_at, typed, tagged, subject_at, object_at, term_of, text_of, has_texts};
 
 use crate::label::{label_of, without_dot};
 use crate::pieces::{Between, cut_text, meaning_of};
 use crate::run::{Class, cut_run, skip_white};
 use crate::tag::{is_tag, lower_case};
 use crate::utf8::text_from;
+use base_core::{Text, Want};
 use std::alloc::Global;
-use term_core::{Term, Text, Want};
+use term_core::Term;
 
 const XSD_STRING: &str = "http://www.w3.org/2001/XMLSchema#string";
 
@@ -104,7 +105,7 @@ fn tagged_term(alloc: Global, form: &[u8], tag: &[u8]) -> Result<Option<Term>, W
 /// `subject ::= IRIREF | BLANK_NODE_LABEL`
 #[tactic(auto, unfolding(crate::specs::Reading::subject_at))]
 pub fn read_subject(bytes: &[u8]) -> Option<(Token<'_>, &[u8])>
-    ensures { Reads (λ found. (term_of found.0, found.1.now)) result (subject_at bytes.now) }
+    ensures { ReadsFront (λ found. (term_of found.0, found.1.now)) result (subject_at bytes.now) }
 {
     match bytes.first() {
         None => None,
@@ -116,7 +117,7 @@ pub fn read_subject(bytes: &[u8]) -> Option<(Token<'_>, &[u8])>
 /// `object ::= IRIREF | BLANK_NODE_LABEL | literal`
 #[tactic(auto, unfolding(crate::specs::Reading::object_at))]
 pub fn read_object(bytes: &[u8]) -> Option<(Token<'_>, &[u8])>
-    ensures { Reads (λ found. (term_of found.0, found.1.now)) result (object_at bytes.now) }
+    ensures { ReadsFront (λ found. (term_of found.0, found.1.now)) result (object_at bytes.now) }
 {
     match bytes.first() {
         None => None,
@@ -126,10 +127,10 @@ pub fn read_object(bytes: &[u8]) -> Option<(Token<'_>, &[u8])>
     }
 }
 
-/// ``IRIREF ::= '<' ([^#x00-#x20<>"{}|^`\] | UCHAR)* '>'``, which is a predicate too.
+/// ``IRIREF ::= '<' ([^#x00-#x20<>"{}|^`\] | UCHAR)* '>'``, and `predicate ::= IRIREF`.
 #[tactic(auto, unfolding(crate::specs::Reading::iriref_at))]
 pub fn read_iri_ref(bytes: &[u8]) -> Option<(Token<'_>, &[u8])>
-    ensures { Reads (λ found. (term_of found.0, found.1.now)) result (iriref_at bytes.now) }
+    ensures { ReadsFront (λ found. (term_of found.0, found.1.now)) result (iriref_at bytes.now) }
 {
     let (iri, behind) = read_enclosed(bytes, Between::Brackets)?;
     Some((Token::Iri(iri), behind))
@@ -138,7 +139,7 @@ pub fn read_iri_ref(bytes: &[u8]) -> Option<(Token<'_>, &[u8])>
 /// `BLANK_NODE_LABEL ::= '_:' (PN_CHARS_U | [0-9]) ((PN_CHARS | '.')* PN_CHARS)?`
 #[tactic(auto, unfolding(crate::specs::Reading::node_at))]
 fn read_node(bytes: &[u8]) -> Option<(Token<'_>, &[u8])>
-    ensures { Reads (λ found. (term_of found.0, found.1.now)) result (node_at bytes.now) }
+    ensures { ReadsFront (λ found. (term_of found.0, found.1.now)) result (node_at bytes.now) }
 {
     match bytes {
         [b'_', rest @ ..] => read_behind_colon(rest),
@@ -146,8 +147,9 @@ fn read_node(bytes: &[u8]) -> Option<(Token<'_>, &[u8])>
     }
 }
 
+/// A BLANK_NODE_LABEL behind its `'_'`.
 fn read_behind_colon(bytes: &[u8]) -> Option<(Token<'_>, &[u8])>
-    ensures { Reads (λ found. (term_of found.0, found.1.now)) result (behind_colon bytes.now) }
+    ensures { ReadsFront (λ found. (term_of found.0, found.1.now)) result (behind_colon bytes.now) }
 {
     match bytes {
         [b':', inside @ ..] => read_label(inside),
@@ -155,8 +157,9 @@ fn read_behind_colon(bytes: &[u8]) -> Option<(Token<'_>, &[u8])>
     }
 }
 
+/// A BLANK_NODE_LABEL behind its `'_:'`, as far as it goes.
 fn read_label(bytes: &[u8]) -> Option<(Token<'_>, &[u8])>
-    ensures { Reads (λ found. (term_of found.0, found.1.now)) result (labelled (without_dot (run is_label_byte bytes.now)) bytes.now) }
+    ensures { ReadsFront (λ found. (term_of found.0, found.1.now)) result (labelled (without_dot (run is_label_byte bytes.now)) bytes.now) }
 {
     let (run, _) = cut_run(bytes, Class::LabelCharacter);
     let label = without_dot(run);
@@ -170,16 +173,16 @@ fn read_label(bytes: &[u8]) -> Option<(Token<'_>, &[u8])>
 /// `literal ::= STRING_LITERAL_QUOTE ('^^' IRIREF | LANGTAG)?`
 #[tactic(auto, unfolding(crate::specs::Reading::literal_at))]
 fn read_literal(bytes: &[u8]) -> Option<(Token<'_>, &[u8])>
-    ensures { Reads (λ found. (term_of found.0, found.1.now)) result (literal_at bytes.now) }
+    ensures { ReadsFront (λ found. (term_of found.0, found.1.now)) result (literal_at bytes.now) }
 {
     let (form, rest) = read_enclosed(bytes, Between::Quotes)?;
     read_mark(form, rest)
 }
 
-/// The literal's mark, if there is one.
+/// The literal's mark, if there is one: `('^^' IRIREF | LANGTAG)?`.
 #[tactic(auto, unfolding(crate::specs::Reading::mark_at))]
 fn read_mark<'a>(form: &'a [u8], rest: &'a [u8]) -> Option<(Token<'a>, &'a [u8])>
-    ensures { Reads (λ found. (term_of found.0, found.1.now)) result (mark_at (text_of Quotes form.now) rest.now) }
+    ensures { ReadsFront (λ found. (term_of found.0, found.1.now)) result (mark_at (text_of Quotes form.now) rest.now) }
 {
     let Some((first, behind)) = skip_white(rest).split_first() else {
         return Some((Token::Plain(form), rest));
@@ -193,7 +196,7 @@ fn read_mark<'a>(form: &'a [u8], rest: &'a [u8]) -> Option<(Token<'a>, &'a [u8])
 
 /// `'^^' IRIREF`, behind the first `'^'`.
 fn read_typed<'a>(form: &'a [u8], bytes: &'a [u8]) -> Option<(Token<'a>, &'a [u8])>
-    ensures { Reads (λ found. (term_of found.0, found.1.now)) result (typed (text_of Quotes form.now) bytes.now) }
+    ensures { ReadsFront (λ found. (term_of found.0, found.1.now)) result (typed (text_of Quotes form.now) bytes.now) }
 {
     let [b'^', rest @ ..] = bytes else {
         return None;
@@ -204,7 +207,7 @@ fn read_typed<'a>(form: &'a [u8], bytes: &'a [u8]) -> Option<(Token<'a>, &'a [u8
 
 /// `LANGTAG ::= '@' [a-zA-Z]+ ('-' [a-zA-Z0-9]+)*`, behind its `'@'`.
 fn read_tagged<'a>(form: &'a [u8], bytes: &'a [u8]) -> Option<(Token<'a>, &'a [u8])>
-    ensures { Reads (λ found. (term_of found.0, found.1.now)) result (tagged (text_of Quotes form.now) bytes.now) }
+    ensures { ReadsFront (λ found. (term_of found.0, found.1.now)) result (tagged (text_of Quotes form.now) bytes.now) }
 {
     let (tag, behind) = cut_run(bytes, Class::TagCharacter);
     if is_tag(tag) {
@@ -214,10 +217,11 @@ fn read_tagged<'a>(form: &'a [u8], bytes: &'a [u8]) -> Option<(Token<'a>, &'a [u
     }
 }
 
-/// A text between its brackets or quotes, and the bytes behind them.
+/// A text between its brackets or quotes, and the bytes behind them: an IRIREF, or
+/// `STRING_LITERAL_QUOTE ::= '"' ([^#x22#x5C#xA#xD] | ECHAR | UCHAR)* '"'`.
 #[tactic(auto, unfolding(crate::specs::Reading::enclosed_at))]
 fn read_enclosed(bytes: &[u8], between: Between) -> Option<(&[u8], &[u8])>
-    ensures { Reads (λ found. (text_of between found.0.now, found.1.now)) result (enclosed_at between bytes.now) }
+    ensures { ReadsFront (λ found. (text_of between found.0.now, found.1.now)) result (enclosed_at between bytes.now) }
 {
     let Some((first, inside)) = bytes.split_first() else {
         return None;

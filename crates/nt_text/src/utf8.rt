@@ -1,15 +1,15 @@
 //! Bytes as text.
 ghost use Rattle.std.specs.Prelude.{◌≡◌, IfOk};
 ghost use Rattle.std.specs.Str.{is_utf8};
-ghost use Rattle.nt_text.specs.Reading.{Reads, Makes, utf8_text};
+ghost use Rattle.nt_text.specs.Reading.{ReadsFront, Makes, utf8_text};
 
+use base_core::{Text, Want};
 use std::alloc::Global;
 use std::str;
-use term_core::{Text, Want};
 
 /// The bytes as text, if they are UTF-8.
 pub fn as_text(bytes: &[u8]) -> Option<&str>
-    ensures { Reads (λ text. text.now) result (utf8_text bytes.now) }
+    ensures { ReadsFront (λ text. text.now) result (utf8_text bytes.now) }
 {
     match str::from_utf8(bytes) {
         Ok(text) => Some(text),
