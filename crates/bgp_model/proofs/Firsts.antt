@@ -11,7 +11,7 @@ use Rattle.std.proofs.lemmas.List.Elements.{filter-append}
 use Rattle.std.proofs.lemmas.Map.Lookups.{CmpEqualImpliesEq}
 use Rattle.pattern_core.proofs.Members.{Has-push}
 use Rattle.term_core.specs.declared.term.Term.{Term}
-use Rattle.term_core.specs.Lists.{Has}
+use Rattle.base_core.specs.Lists.{Has}
 use Rattle.term_core.specs.contracts.term.TermOrd.TheImpl as term_ord
 use Rattle.term_core.specs.contracts.term.TermOrd.TheImpl.Laws.{total-law}
 use Rattle.bgp_model.specs.declared.query.Pattern.{Pattern}

@@ -1,7 +1,7 @@
--- What the functions keep that gather a query's terms.
+-- Private: what the functions keep that gather a query's terms.
 use Rattle.std.specs.Prelude.{◌≡◌, List, ◌++◌, ◌↔◌}
 use Rattle.term_core.specs.declared.term.Term.{Term}
-use Rattle.term_core.specs.Lists.{Has}
+use Rattle.base_core.specs.Lists.{Has}
 use Rattle.bgp_model.specs.declared.query.Pattern.{Pattern}
 use Rattle.bgp_model.specs.QueryTerms.{fixed_in, firsts}
 

@@ -1,6 +1,10 @@
+pub mod Cells
+pub mod Draft
 pub mod Filling
 pub mod GatheredTerms
 pub mod Order
 pub mod QueryTerms
 pub mod Row
 pub mod Solutions
+pub mod Table
+pub mod Words

@@ -3,8 +3,8 @@ ghost use Rattle.std.specs.Prelude.{◌≡◌, IfOk};
 ghost use Rattle.bgp_model.specs.Row.{line_of};
 
 use crate::solution::{Solution, row_line};
+use base_core::Want;
 use std::alloc::Global;
-use term_core::Want;
 
 /// A solution and the line in which it is printed.
 #[derive(Drop)]

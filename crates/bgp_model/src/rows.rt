@@ -3,7 +3,7 @@ ghost use Rattle.std.specs.Prelude.{◌≡◌, map, IfOk, OnOk};
 ghost use Rattle.std.specs.List.Sorted.{IsPermutation, IsSortedByKey};
 ghost use Rattle.std.specs.Ordering.{nat_cmp};
 ghost use Rattle.std.specs.Cmp.Lexicographic.{slice_cmp};
-ghost use Rattle.term_core.specs.Lists.{AreDistinct};
+ghost use Rattle.base_core.specs.Lists.{AreDistinct};
 ghost use Rattle.bgp_model.specs.Row.{line_of};
 ghost use Rattle.bgp_model.specs.Solutions.{row_of};
 
@@ -11,9 +11,9 @@ use crate::assignment::Assignment;
 use crate::printed::Printed;
 use crate::query::Query;
 use crate::solution::Solution;
+use base_core::{List, Want};
 use std::alloc::Global;
 use std::collections::BTreeSet;
-use term_core::{List, Want};
 
 /// One row for each assignment, also where rows are equal, sorted by their lines.
 pub fn rows_of(

@@ -3,9 +3,10 @@ ghost use Rattle.std.specs.Prelude.{◌≡◌, ◌++◌, OnOk, OnErr};
 ghost use Rattle.nt_text.specs.Cell.{cell_of};
 ghost use Rattle.bgp_model.specs.Row.{line_of};
 
+use base_core::{List, Want};
 use nt_text::write_term;
 use std::alloc::Global;
-use term_core::{List, Term, Want};
+use term_core::Term;
 
 /// What the selected variables stand for, in their order; nothing where a variable is unbound.
 #[derive(Debug, Drop)]

@@ -1,14 +1,15 @@
 //! The distinct terms of a query, for each of which an id is looked up once.
 ghost use Rattle.std.specs.Prelude.{◌≡◌, ◌++◌, ◌↔◌, List as Items, IfOk, OnOk, IsTrue};
 ghost use Rattle.term_core.specs.declared.term.Term.{Term as Meaning};
-ghost use Rattle.term_core.specs.Lists.{Has};
+ghost use Rattle.base_core.specs.Lists.{Has};
 ghost use Rattle.bgp_model.specs.QueryTerms.{fixed_in, terms_of};
 ghost use Rattle.bgp_model.specs.GatheredTerms.{IsGathered, fixed_in_pattern};
 
 use crate::query::{Pattern, Query, Slot};
+use base_core::{List, Want};
 use std::alloc::Global;
 use std::collections::BTreeSet;
-use term_core::{List, Term, Want};
+use term_core::Term;
 
 /// The distinct terms of a query's patterns, by first appearance: by pattern, then subject, predicate, object.
 pub fn query_terms(alloc: Global, query: &Query) -> Result<List<Term>, Want>

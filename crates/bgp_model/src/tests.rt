@@ -4,9 +4,10 @@ ghost use Rattle.bgp_model.specs.declared.query.Query.{Query as Asked};
 ghost use Rattle.bgp_model.specs.Solutions.{HasPlaces, IsPlaced};
 
 use super::*;
+use base_core::{List, Text, Want};
 use std::alloc::Global;
 use std::test::Fail;
-use term_core::{List, Statement, Term, Text, Want};
+use term_core::{Statement, Term};
 
 /// Four statements, of which the third says what the first does.
 const REPEATED: &[[&str; 3]] = &[

@@ -1,6 +1,6 @@
 use Rattle.std.proofs.Common.{◌≡◌, [], ◌∷◌, ◌++◌, ap, sym, subst, ◌∙◌, rules}
 use Rattle.std.specs.BTreeSet.{insert_key}
-use Rattle.term_core.specs.Lists.{Has}
+use Rattle.base_core.specs.Lists.{Has}
 use Rattle.term_core.specs.contracts.term.TermOrd.TheImpl as term_ord
 use Rattle.bgp_model.specs.QueryTerms.{fixed_in}
 use Rattle.bgp_model.specs.GatheredTerms.{IsGathered}
