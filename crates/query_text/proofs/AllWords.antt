@@ -1,8 +1,8 @@
 -- Each word that is left out stands in the table of all words.
 use Rattle.std.proofs.Common.{◌≡◌, ℕ, ◌<◌, arith, get_or, length, refl}
-use Rattle.query_text.specs.declared.word.Word.{Word}
-use Rattle.query_text.specs.declared.word.Word.TheVariants as words
-use Rattle.query_text.specs.declared.word.TheConstants.{WORDS}
+use Rattle.bgp_model.specs.declared.word.Word.{Word}
+use Rattle.bgp_model.specs.declared.word.Word.TheVariants as words
+use Rattle.bgp_model.specs.declared.word.TheConstants.{WORDS}
 
 abbrev pub StandsIn : Word → Type 0
 StandsIn word = (k : ℕ) × (k < length WORDS) × (get_or WORDS k words.Base ≡ word)

@@ -15,15 +15,15 @@ use Rattle.query_text.specs.declared.phase.Phase.{Phase}
 use Rattle.query_text.specs.declared.phase.Phase.TheVariants as phases
 use Rattle.query_text.specs.declared.phase.Triple.{Triple as RawTriple}
 use Rattle.query_text.specs.declared.token.Token.{Token as Found}
-use Rattle.query_text.specs.declared.word.Word.{Word}
+use Rattle.bgp_model.specs.declared.word.Word.{Word}
 use Rattle.query_text.specs.Tokens.{Token}
 use Rattle.query_text.specs.Texts.{AreCharacters, BeginsWithNone, AreTokens}
 use Rattle.query_text.specs.Grammar.{Declaration, Triple, Written, IsQuery}
-use Rattle.query_text.specs.Meaning.{query_of, Reads, IsText, HasTerms, pattern_of, names_of, labels_of}
+use Rattle.query_text.specs.Meaning.{query_of, ReadsQuery, IsText, HasTerms, pattern_of, names_of, labels_of}
 use Rattle.query_text.specs.Reading.{token_of, AreCut}
 use Rattle.query_text.specs.Parsing.{State, start, run, IsStopped, IsRead, IsParsed, seen, is_empty}
 use Rattle.query_text.specs.Outcomes.{is_end, is_whole, IsPlace, fault_at, IsRefusal}
-use Rattle.query_text.specs.Refusals.{IsViable, StopsReading, token, no_token, ended, IsRefused, IsTooLarge, HasCause}
+use Rattle.query_text.specs.Refusals.{IsViable, StopsReading, token, no_token, ended, IsRefused, IsTooLarge, IsBadText}
 use Rattle.query_text.specs.Saying.{AreTriplesOf, Says}
 use Rattle.query_text.proofs.Gaps.{cut_tokens}
 use Rattle.query_text.proofs.Complete.{runs, refused, nowhere}
@@ -47,9 +47,9 @@ mapped_last : (front : List Found) (t : Found) → map token_of (front ++ t ∷ 
 mapped_last [] t = refl
 mapped_last (f ∷ front) t = ap (λ (z : List Token). token_of f ∷ z) (mapped_last front t)
 
-caused : (bytes : List ℕ) (fault : QueryFault) (place : ℕ) (word : Option Word) → fault ≡ fault_at place word → IsRefused bytes place word → HasCause bytes fault
-caused bytes fault place None e h = subst (HasCause bytes) (sym e) h
-caused bytes fault place (Some word) e h = subst (HasCause bytes) (sym e) h
+caused : (bytes : List ℕ) (fault : QueryFault) (place : ℕ) (word : Option Word) → fault ≡ fault_at place word → IsRefused bytes place word → IsBadText bytes fault
+caused bytes fault place None e h = subst (IsBadText bytes) (sym e) h
+caused bytes fault place (Some word) e h = subst (IsBadText bytes) (sym e) h
 
 no_front : (rest : List ℕ) → is_empty rest ≡ true → rest ≡ []
 no_front [] h = refl
@@ -70,7 +70,7 @@ record AllTokens (characters bad : List ℕ) (query : Asked) : Type 0 where
   nothing_bad : bad ≡ []
   says : query ≡ query_of written
 
-all_tokens : (bytes characters bad : List ℕ) → AreCharacters bytes characters bad → (query : Asked) → Reads bytes query → AllTokens characters bad query
+all_tokens : (bytes characters bad : List ℕ) → AreCharacters bytes characters bad → (query : Asked) → ReadsQuery bytes query → AllTokens characters bad query
 all_tokens bytes characters bad h query (written, text, e) =
     let all = text.1 in
     let spelled = sym (append-nil (encode_utf8_all all.characters)) ∙ sym all.are_characters.spelled ∙ h.spelled in
@@ -101,7 +101,7 @@ module _ (bytes characters bad : List ℕ) (are_characters : AreCharacters bytes
     pub token_within : width (t.characters.now ++ t.behind.now) + length bad ≤ length bytes
     token_within = omega (arith, within stopped.front stopped.here stopped.cut, ap width stopped.begins.cut)
 
-    pub refusal_fault : (fault : QueryFault) → IsRefusal (length bytes) (token_of t) t.behind.now bad fault → HasCause bytes fault
+    pub refusal_fault : (fault : QueryFault) → IsRefusal (length bytes) (token_of t) t.behind.now bad fault → IsBadText bytes fault
     refusal_fault fault r =
         let front = cut_found characters stopped.front stopped.here stopped.cut in
         let place : IsPlace (length bytes) stopped.here bad r.place = subst (λ (z : List ℕ). IsPlace (length bytes) z bad r.place) (sym stopped.begins.cut) r.place_is in
@@ -120,7 +120,7 @@ module _ (bytes characters bad : List ℕ) (are_characters : AreCharacters bytes
               (λ v. refused stopped.front t stopped.state stopped.read stopped.stopped (subst IsViable (sym (mapped_last stopped.front t)) v)) r.word_is;
         })
 
-    pub refusal_only : (query : Asked) → Reads bytes query → ⊥
+    pub refusal_only : (query : Asked) → ReadsQuery bytes query → ⊥
     refusal_only query reads =
         let a = all_tokens bytes characters bad are_characters query reads in
         let on = front_same characters stopped.here stopped.front t a.tokens stopped.cut stopped.begins a.are in
@@ -136,7 +136,7 @@ module _ (bytes characters bad : List ℕ) (are_characters : AreCharacters bytes
     abbrev read : run (Some start) found ≡ Some state
     read = end.read
 
-    as_cut : (query : Asked) → Reads bytes query → AsCut found rest bad query
+    as_cut : (query : Asked) → ReadsQuery bytes query → AsCut found rest bad query
     as_cut query reads =
         let a = all_tokens bytes characters bad are_characters query reads in
         let tokens = cut_same characters found rest a.tokens end.cut end.none a.are in record {
@@ -167,7 +167,7 @@ module _ (bytes characters bad : List ℕ) (are_characters : AreCharacters bytes
                 let at = (query_says found state query read is).0 in
                 let wrong : true ≡ false = sym (ap (λ (p : Phase). is_whole p [] []) at) ∙ k in cc
 
-    pub ended_fault : (place : ℕ) → is_whole state.phase rest bad ≡ false → IsPlace (length bytes) rest bad place → HasCause bytes (faults.At place)
+    pub ended_fault : (place : ℕ) → is_whole state.phase rest bad ≡ false → IsPlace (length bytes) rest bad place → IsBadText bytes (faults.At place)
     ended_fault place h p = record {
       tokens = map token_of found;
       rest = rest;
@@ -177,7 +177,7 @@ module _ (bytes characters bad : List ℕ) (are_characters : AreCharacters bytes
       stops = ended_stops h;
     }
 
-    pub ended_only : is_whole state.phase rest bad ≡ false → (query : Asked) → Reads bytes query → ⊥
+    pub ended_only : is_whole state.phase rest bad ≡ false → (query : Asked) → ReadsQuery bytes query → ⊥
     ended_only h query reads =
         let a = as_cut query reads in
         let at = (query_says found state a.written read a.is_query).0 in
@@ -217,7 +217,7 @@ module _ (bytes characters bad : List ℕ) (are_characters : AreCharacters bytes
       written_of = some_says found state all_found read at_end
 
       -- each query of the text is of what was read
-      only_written : (query : Asked) → Reads bytes query → (written : Written) → Says state written → query ≡ query_of written
+      only_written : (query : Asked) → ReadsQuery bytes query → (written : Written) → Says state written → query ≡ query_of written
       only_written query reads written says =
           let a = as_cut query reads in
           a.says ∙ ap query_of (says_same state a.written written (query_says found state a.written read a.is_query).1 says)
@@ -232,13 +232,13 @@ module _ (bytes characters bad : List ℕ) (are_characters : AreCharacters bytes
           let w = written_of in
           (w.0, is_text w.0 w.1, omega (arith, h, same_number w.1.declarations state.triples w.0.triples w.1.triples))
 
-      pub too_large_only : 16 < length state.triples → (query : Asked) → Reads bytes query → length query.patterns ≤ 16 → ⊥
+      pub too_large_only : 16 < length state.triples → (query : Asked) → ReadsQuery bytes query → length query.patterns ≤ 16 → ⊥
       too_large_only h query reads few =
           let w = written_of in
           omega (arith, h, few, number query w.0 w.1 (only_written query reads w.0 w.1))
 
       module _ (query : Asked) (made : (written : Written) → Says state written → query ≡ query_of written) where
-        pub query_reads : Reads bytes query
+        pub query_reads : ReadsQuery bytes query
         query_reads = let w = written_of in (w.0, is_text w.0 w.1, made w.0 w.1)
 
         pub query_places : HasPlaces query
@@ -251,7 +251,7 @@ module _ (bytes characters bad : List ℕ) (are_characters : AreCharacters bytes
         pub query_few : length state.triples ≤ 16 → length query.patterns ≤ 16
         query_few h = let w = written_of in omega (arith, h, number query w.0 w.1 (made w.0 w.1))
 
-        pub query_only : (other : Asked) → Reads bytes other → query ≡ other
+        pub query_only : (other : Asked) → ReadsQuery bytes other → query ≡ other
         query_only other reads = let w = written_of in made w.0 w.1 ∙ sym (only_written other reads w.0 w.1)
 
 -- ---- as the code finds them

@@ -38,3 +38,5 @@ pub mod Widths
 pub mod OneCut
 pub mod Asked
 pub mod Endings
+pub mod OneWord
+pub mod OneFault

@@ -11,7 +11,7 @@ use Rattle.query_text.specs.declared.class.Declaration.{Declaration as Declared}
 use Rattle.query_text.specs.declared.phase.Triple.{Triple as RawTriple}
 use Rattle.query_text.specs.Grammar.{Node, Triple}
 use Rattle.query_text.specs.Meaning.{place_of, slot_of, pattern_of, from_triples, variables_of_node, labels_of_node}
-use Rattle.query_text.specs.Building.{known_place, behind_known, with_name, with_names, Knows, names_said, name_text, IsSlot, IsPattern, ArePatterns, of_triple, triple_said}
+use Rattle.query_text.specs.Building.{known_place, behind_known, with_name, with_names, KnowsNames, names_said, name_text, IsSlot, IsPattern, ArePatterns, of_triple, triple_said}
 
 -- ---- where a name stands
 
@@ -59,11 +59,11 @@ known_place-last names name new =
     ∙ ap (λ (b : Bool). at_end b (length names)) (same_name name)
 
 -- the map knows one more name
-pub Knows-more : (names new : List (List ℕ)) (before after : BTreeMap (List ℕ) ℕ) (name key : List ℕ) (place : ℕ) → Knows names before
+pub KnowsNames-more : (names new : List (List ℕ)) (before after : BTreeMap (List ℕ) ℕ) (name key : List ℕ) (place : ℕ) → KnowsNames names before
     → None ≡ get (slice_cmp nat_cmp) before name → key ≡ name → place ≡ length names → new ≡ names ++ name ∷ []
     → ((q : List ℕ) → get (slice_cmp nat_cmp) after q ≡ cond (is_at (slice_cmp nat_cmp key) q) (Some place) (get (slice_cmp nat_cmp) before q))
-    → Knows new after
-Knows-more names new before after name key place knows absent same at grown told q =
+    → KnowsNames new after
+KnowsNames-more names new before after name key place knows absent same at grown told q =
     told q
     ∙ ap (λ (k : List ℕ). cond (is_at (slice_cmp nat_cmp k) q) (Some place) (get (slice_cmp nat_cmp) before q)) same
     ∙ ap (λ (b : Bool). cond b (Some place) (get (slice_cmp nat_cmp) before q)) (sym (texts_ties name q))

@@ -18,7 +18,7 @@ use Rattle.query_text.proofs.Backwards.{AreFound}
 
 -- ---- characters
 
-some_code : (c : ℕ) (rest : List ℕ) → [] ≡ encode_utf8 c ++ rest → ⊥
+pub some_code : (c : ℕ) (rest : List ℕ) → [] ≡ encode_utf8 c ++ rest → ⊥
 some_code c rest e = omega (arith, ap length e, length-append (encode_utf8 c) rest, length-encode c, (len_utf8_bounds c).0)
 
 -- bytes that are all characters begin with these characters and no others, and leave no bad byte
@@ -67,14 +67,14 @@ same_by text one other behind rest more a b e f =
     let kind = kind_same one.kind other.kind one.characters a.is (subst (IsOf other.kind) characters b.is) in
     (token_same one other kind (sym characters), f ∙ ap (λ (z : List ℕ). z ++ rest) none)
 
-first_same : (text : List ℕ) (one other : Token) (behind rest : List ℕ) → BeginsWith text one behind → BeginsWith text other rest → (one ≡ other) × (behind ≡ rest)
+pub first_same : (text : List ℕ) (one other : Token) (behind rest : List ℕ) → BeginsWith text one behind → BeginsWith text other rest → (one ≡ other) × (behind ≡ rest)
 first_same text one other behind rest a b = by (fronts one.characters behind other.characters rest (sym a.cut ∙ b.cut))
   where
     by : Fronts one.characters behind other.characters rest → (one ≡ other) × (behind ≡ rest)
     by (shorter more e f) = same_by text one other behind rest more a b e f
     by (longer more e f) = let r = same_by text other one rest behind more b a e f in (sym r.0, sym r.1)
 
-no_first : (token : Token) (behind : List ℕ) → BeginsWith [] token behind → ⊥
+pub no_first : (token : Token) (behind : List ℕ) → BeginsWith [] token behind → ⊥
 no_first token behind h = by token.characters h.cut h.is
   where
     by : (cs : List ℕ) → [] ≡ cs ++ behind → IsOf token.kind cs → ⊥

@@ -1,4 +1,4 @@
--- How the code tells a word from the prefix of a name without looking ahead again: the characters of a prefix end in a colon or they don't, for all that begin among them.
+-- Private: how the code tells a word from the prefix of a name without looking ahead again: the characters of a prefix end in a colon or they don't, for all that begin among them.
 use Rattle.std.specs.Prelude.{◌≡◌, ℕ, ◌+◌, ◌<◌, Bool, true, false, not, ◌&&◌, List, [], ◌∷◌, ◌++◌, length, Option, Some, None, ◌==◌, if◌then◌else◌}
 use Rattle.term_core.specs.Characters.{is_letter}
 use Rattle.query_text.specs.Characters.{continues_name, continues_word}

@@ -1,4 +1,4 @@
--- How the code makes a query of what it has read: the texts of tokens, and places given to names as they come. That this is the query of
+-- Private: how the code makes a query of what it has read: the texts of tokens, and places given to names as they come. That this is the query of
 -- specs/Meaning.antt stands in proofs/.
 use Rattle.std.specs.Prelude.{◌≡◌, ℕ, suc, ◌+◌, ◌*◌, Bool, true, false, ◌&&◌, ◌||◌, List, [], ◌∷◌, ◌++◌, length, map, drop, Option, Some, None, option_map, ◌==◌, nat_eq, nat_le, nat_lt, if◌then◌else◌}
 use Rattle.std.specs.Char.{encode_utf8, to_ascii_lowercase, digit_value, is_ascii_hexdigit}
@@ -169,11 +169,11 @@ with_names names [] = names
 with_names names (name ∷ more) = with_names (with_name names name) more
 
 -- the map has the place of each of the names, and of no other
-abbrev pub Knows : List (List ℕ) → BTreeMap (List ℕ) ℕ → Type 0
-Knows names places = (name : List ℕ) → get (slice_cmp nat_cmp) places name ≡ known_place names name
+abbrev pub KnowsNames : List (List ℕ) → BTreeMap (List ℕ) ℕ → Type 0
+KnowsNames names places = (name : List ℕ) → get (slice_cmp nat_cmp) places name ≡ known_place names name
 
 abbrev pub Stand : Scope → Type 0
-Stand scope = Knows scope.variables.list.items scope.variables.places × Knows scope.labels.list.items scope.labels.places
+Stand scope = KnowsNames scope.variables.list.items scope.variables.places × KnowsNames scope.labels.list.items scope.labels.places
 
 -- the slot is the node's, whatever names follow
 abbrev pub IsSlot : List (List ℕ) → List (List ℕ) → Node → Slot → Type 0

@@ -2,6 +2,7 @@ pub mod Ahead
 pub mod Building
 pub mod Characters
 pub mod Grammar
+pub mod Limits
 pub mod Meaning
 pub mod Outcomes
 pub mod Parsing

@@ -76,8 +76,8 @@ abbrev pub IsText : List ℕ → Written → Type 0
 IsText bytes written = (tokens : List Token) × AreAllTokens bytes tokens × IsQuery tokens written
 
 -- the text says this query
-abbrev pub Reads : List ℕ → Query → Type 0
-Reads bytes query = (written : Written) × IsText bytes written × (query ≡ query_of written)
+abbrev pub ReadsQuery : List ℕ → Query → Type 0
+ReadsQuery bytes query = (written : Written) × IsText bytes written × (query ≡ query_of written)
 
 -- the terms of a pattern keep the rules on their characters
 abbrev pub IsTermOrOpen : Slot → Type 0

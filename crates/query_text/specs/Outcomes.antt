@@ -1,11 +1,11 @@
--- What reading comes to, from what the private functions find.
+-- Private: what reading comes to, from what the private functions find.
 use Rattle.std.specs.Prelude.{◌≡◌, ℕ, ◌+◌, Bool, true, false, ◌&&◌, List, ◌++◌, length, Option, Some, None}
 use Rattle.std.specs.Str.{encode_utf8_all}
 use Rattle.query_text.specs.declared.fault.QueryFault.{QueryFault}
 use Rattle.query_text.specs.declared.fault.QueryFault.TheVariants as faults
 use Rattle.query_text.specs.declared.phase.Phase.{Phase}
 use Rattle.query_text.specs.declared.phase.Phase.TheVariants as phases
-use Rattle.query_text.specs.declared.word.Word.{Word}
+use Rattle.bgp_model.specs.declared.word.Word.{Word}
 use Rattle.query_text.specs.Tokens.{Token}
 use Rattle.query_text.specs.Parsing.{is_empty}
 use Rattle.query_text.specs.Refusals.{IsLeftOut}

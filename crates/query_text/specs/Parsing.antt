@@ -1,4 +1,4 @@
--- How the code reads the grammar: what each token does in each phase. That this is the grammar stands in proofs/.
+-- Private: how the code reads the grammar: what each token does in each phase. That this is the grammar stands in proofs/.
 use Rattle.std.specs.Prelude.{◌≡◌, ℕ, Bool, true, false, ◌||◌, List, [], ◌∷◌, ◌++◌, map, Option, Some, None, nat_eq, ◌==◌, if◌then◌else◌, codes}
 use Rattle.std.specs.Char.{to_ascii_uppercase}
 use Rattle.std.specs.Borrow.{Bor}

@@ -1,4 +1,4 @@
--- What the private functions of the reader find.
+-- Private: what the private functions of the reader find.
 use Rattle.std.specs.Prelude.{◌≡◌, ℕ, Bool, true, false, not, ◌==◌, if◌then◌else◌, List, [], ◌∷◌, ◌++◌, length, take, drop, Option, Some, None}
 use Rattle.std.specs.Char.{encode_utf8, IsScalar}
 use Rattle.query_text.specs.declared.kind.TokenKind.{TokenKind}

@@ -1,4 +1,4 @@
--- What the code has read, as found tokens, says the query that the grammar speaks of.
+-- Private: what the code has read, as found tokens, says the query that the grammar speaks of.
 use Rattle.std.specs.Prelude.{◌≡◌, Bool, true, false, List, [], ◌∷◌, map, ◌⊎◌, ℕ, codes}
 use Rattle.std.specs.Char.{to_ascii_lowercase}
 use Rattle.term_core.specs.declared.term.Term.TheVariants as terms

@@ -1,4 +1,4 @@
--- How the code finds the longest token: what has been read of it, character by character. That it finds what the rules say stands in proofs/.
+-- Private: how the code finds the longest token: what has been read of it, character by character. That it finds what the rules say stands in proofs/.
 use Rattle.std.specs.Prelude.{ℕ, ◌+◌, ◌-◌, ◌*◌, Bool, true, false, ◌&&◌, ◌||◌, List, [], ◌∷◌, Option, Some, None, ◌==◌, nat_le, nat_lt, if◌then◌else◌, codes, option_map}
 use Rattle.std.specs.Char.{digit_value, is_ascii_hexdigit}
 use Rattle.std.specs.List.{list_any}

@@ -1,4 +1,4 @@
--- What the texts of tokens mean, from left to right.
+-- Private: what the texts of tokens mean, from left to right.
 use Rattle.std.specs.Prelude.{ℕ, ◌+◌, ◌*◌, ◌||◌, List, [], ◌∷◌, ◌++◌, Option, Some, None, ◌==◌, nat_lt, if◌then◌else◌}
 use Rattle.std.specs.Char.{encode_utf8, digit_value}
 use Rattle.nt_text.specs.Escapes.{escaped}

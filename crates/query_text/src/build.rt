@@ -8,7 +8,7 @@ ghost use Rattle.query_text.specs.Grammar.{Written};
 ghost use Rattle.query_text.specs.Meaning.{query_of, selected, from_triples, variables_of_node, labels_of_node};
 ghost use Rattle.query_text.specs.Parsing.{seen};
 ghost use Rattle.query_text.specs.Saying.{Says};
-ghost use Rattle.query_text.specs.Building.{Knows, Stand, with_names, of_triple, node_said, triple_said, columns_said, chosen_or_all, IsSlot, IsPattern, ArePatterns, AreChosen};
+ghost use Rattle.query_text.specs.Building.{KnowsNames, Stand, with_names, of_triple, node_said, triple_said, columns_said, chosen_or_all, IsSlot, IsPattern, ArePatterns, AreChosen};
 
 use crate::class::Declaration;
 use crate::naming::{Names, Scope};
@@ -16,9 +16,9 @@ use crate::parse::Parser;
 use crate::phase::{Node, Triple};
 use crate::token::Token;
 use crate::value::value_of;
+use base_core::{List, Want};
 use bgp_model::{Pattern, Query, Slot};
 use std::alloc::Global;
-use term_core::{List, Want};
 
 /// The query that was read.
 pub fn query_of<'a>(alloc: Global, parser: &Parser<'a>) -> Result<Query, Want>
@@ -52,8 +52,8 @@ fn chosen(
     all: bool,
     columns: &[Token],
 ) -> Result<Option<List<u32>>, Want>
-    requires { Knows variables.old.list.items variables.old.places }
-    ensures knows { OnOk result (Knows variables.new.list.items variables.new.places) }
+    requires { KnowsNames variables.old.list.items variables.old.places }
+    ensures knows { OnOk result (KnowsNames variables.new.list.items variables.new.places) }
     ensures names { OnOk result (variables.new.list.items ≡ with_names variables.old.list.items (selected (columns_said all columns.now))) }
     ensures chosen { IfOk result (AreChosen variables.new.list.items (columns_said all columns.now)) }
 {

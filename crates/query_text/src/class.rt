@@ -8,26 +8,33 @@ ghost use Rattle.query_text.specs.Parsing.{class_of, word_class, symbol_class, l
 use crate::kind::TokenKind;
 use crate::spelling::is_keyword;
 use crate::token::Token;
+use base_core::Want;
 use std::alloc::Global;
 use std::collections::BTreeSet;
-use term_core::Want;
 
 /// What a token is to the grammar.
 #[derive(Clone, Copy, Debug)]
 pub enum Class {
+    /// The word of `[6] PrefixDecl`.
     PrefixWord,
+    /// The word of `[9] SelectClause`.
     SelectWord,
+    /// The word of `[17] WhereClause`.
     WhereWord,
-    /// The word `a`, which is a verb.
+    /// The word `a` of `[78] Verb`.
     A,
+    /// `[134] BooleanLiteral ::= 'true' | 'false'`
     Boolean,
+    /// `[108] Var ::= VAR1 | VAR2`
     Var,
     Iriref,
-    /// A prefixed name: whether it has no local part, and whether its prefix is declared.
+    /// `[137] PrefixedName ::= PNAME_LN | PNAME_NS`: whether it has no local part, and whether its prefix is declared.
     PrefixName { bare: bool, declared: bool },
+    /// `[138] BlankNode ::= BLANK_NODE_LABEL | ANON` (no `ANON`)
     Label,
     Integer,
     Decimal,
+    /// `[135] String ::= STRING_LITERAL1 | STRING_LITERAL2 | STRING_LITERAL_LONG1 | STRING_LITERAL_LONG2` (no long ones)
     Str,
     Langtag,
     Star,
@@ -41,7 +48,7 @@ pub enum Class {
     Other,
 }
 
-/// A prefix and the IRI for which it stands.
+/// A prefix and the IRI for which it stands: `[6] PrefixDecl ::= 'PREFIX' PNAME_NS IRIREF`.
 #[derive(Clone, Copy, Debug)]
 pub struct Declaration<'a> {
     pub name: Token<'a>,
@@ -107,6 +114,7 @@ pub fn class_of(declarations: &Declarations, token: Token) -> Class
     }
 }
 
+/// `[137] PrefixedName ::= PNAME_LN | PNAME_NS`
 fn name_class(declarations: &Declarations, name: &[char]) -> Class
     requires { KnowsPrefixes declarations.now }
     ensures { result ≡ name_class declarations.now.list.items name.now }
@@ -139,6 +147,7 @@ pub fn same_characters(one: &[char], other: &[char]) -> bool
     one == other
 }
 
+/// The words that the rules quote, in letters of any case but for `a`.
 #[tactic(auto, unfolding(crate::specs::Parsing::word_class))]
 fn word_class(word: &[char]) -> Class
     ensures { result ≡ word_class word.now }
@@ -165,6 +174,7 @@ fn is_a(word: &[char]) -> bool
     matches!(word, ['a'])
 }
 
+/// The marks that the rules quote.
 fn symbol_class(symbol: &[char]) -> Class
     ensures { result ≡ symbol_class symbol.now }
 {

@@ -4,9 +4,9 @@ ghost use Rattle.query_text.specs.Reading.{BeginsNoCharacter};
 ghost use Rattle.query_text.specs.Texts.{AreCharacters};
 ghost use Rattle.std.specs.Str.{chars, IsUtf8};
 
+use base_core::Want;
 use std::alloc::Global;
 use std::str;
-use term_core::Want;
 
 /// The characters of the bytes, up to the first byte that begins none, and the bytes from there on.
 pub fn decode(alloc: Global, bytes: &[u8]) -> Result<(Vec<char>, &[u8]), Want>

@@ -2,8 +2,8 @@
 ghost use Rattle.std.specs.Prelude.{◌≡◌};
 ghost use Rattle.query_text.specs.declared.fault.QueryFault.TheVariants.{NoMemory};
 
-use crate::word::Word;
-use term_core::Want;
+use base_core::Want;
+use bgp_model::Word;
 
 /// Why the text of a query could not be read. A place counts bytes.
 #[derive(Clone, Copy, Debug, PartialEq, Eq)]
@@ -14,7 +14,7 @@ pub enum QueryFault {
     At { place: u32 },
     /// The same, where the token is a word of SPARQL that is left out.
     LeftOut { place: u32, word: Word },
-    /// The text is a query of more than 16 patterns.
+    /// The text is a query of more patterns than `MOST_PATTERNS`.
     TooManyPatterns,
 }
 

@@ -12,6 +12,7 @@ mod decode;
 mod fault;
 mod kind;
 mod left_out;
+mod limits;
 mod name_scan;
 mod naming;
 mod next_token;
@@ -27,12 +28,11 @@ mod text_scan;
 mod token;
 mod token_text;
 mod value;
-mod word;
 
 pub use fault::QueryFault;
 pub use kind::TokenKind;
+pub use limits::{LARGEST_QUERY, MOST_PATTERNS};
 pub use reader::read_query;
-pub use word::Word;
 
 #[cfg(test)]
 mod tests;

@@ -1,18 +1,18 @@
 //! Variables and labels, which get their places by first appearance.
 //!
-//! `Names` keeps the names in a list, each once, and beside it a map from each name to its place there (`Knows`). A list
+//! `Names` keeps the names in a list, each once, and beside it a map from each name to its place there (`KnowsNames`). A list
 //! only grows, so that the place of a name stays its place in all names of the text.
 ghost use Rattle.std.specs.Prelude.{◌≡◌, [], IfOk, OnOk, Some, ◌++◌, List as Items, ℕ, map};
 ghost use Rattle.query_text.specs.Meaning.{variables_of_node, labels_of_node, place_of};
-ghost use Rattle.query_text.specs.Building.{Knows, Stand, known_place, with_name, with_names, names_said, node_in, IsSlot};
+ghost use Rattle.query_text.specs.Building.{KnowsNames, Stand, known_place, with_name, with_names, names_said, node_in, IsSlot};
 
 use crate::token::Token;
 use crate::token_text::name_of;
 use crate::value::Value;
+use base_core::{Text, Want};
 use bgp_model::Slot;
 use std::alloc::Global;
 use std::collections::BTreeMap;
-use term_core::{Text, Want};
 
 /// Names by first appearance, and the place of each of them.
 #[derive(Debug, Drop)]
@@ -24,7 +24,7 @@ pub struct Names {
 impl Names {
     pub fn new(alloc: Global) -> Names
         ensures none { result.list.items ≡ [] }
-        ensures knows { Knows result.list.items result.places }
+        ensures knows { KnowsNames result.list.items result.places }
     {
         Names {
             list: Vec::new(alloc),
@@ -34,8 +34,8 @@ impl Names {
 
     /// The place of the name, the next one if it is new.
     pub fn place(&mut self, alloc: Global, name: Text) -> Result<u32, Want>
-        requires { Knows self.old.list.items self.old.places }
-        ensures knows { OnOk result (Knows self.new.list.items self.new.places) }
+        requires { KnowsNames self.old.list.items self.old.places }
+        ensures knows { OnOk result (KnowsNames self.new.list.items self.new.places) }
         ensures names { OnOk result (self.new.list.items ≡ with_name self.old.list.items name) }
         ensures place { IfOk result (λ place. known_place self.new.list.items name ≡ Some place) }
     {
@@ -52,8 +52,8 @@ impl Names {
 
     /// The places of the variables of these tokens.
     pub fn places_of(&mut self, alloc: Global, tokens: &[Token]) -> Result<Vec<u32>, Want>
-        requires { Knows self.old.list.items self.old.places }
-        ensures knows { OnOk result (Knows self.new.list.items self.new.places) }
+        requires { KnowsNames self.old.list.items self.old.places }
+        ensures knows { OnOk result (KnowsNames self.new.list.items self.new.places) }
         ensures names { OnOk result (self.new.list.items ≡ with_names self.old.list.items (names_said tokens.now)) }
         // These are their places whatever names follow.
         ensures places { IfOk result (λ places. (more : Items (Items ℕ)) → places.items ≡ map (place_of (self.new.list.items ++ more)) (names_said tokens.now)) }

@@ -6,10 +6,11 @@ use crate::class::{Declarations, class_of};
 use crate::next_token::next_token;
 use crate::phase::{Phase, Said, Triple, decide};
 use crate::token::{Token, skip_gap};
+use base_core::Want;
 use std::alloc::Global;
-use term_core::Want;
 
-/// What has been read of a query.
+/// What has been read of a query: `[4] Prologue` is the declarations, `[9] SelectClause` the columns, and
+/// `[55] TriplesBlock` the triples.
 #[derive(Debug, Drop)]
 pub struct Parser<'a> {
     pub phase: Phase<'a>,
@@ -59,7 +60,7 @@ fn begin<'a>(alloc: Global) -> Parser<'a>
     }
 }
 
-/// Reads one more token; `false` where no query goes on with it.
+/// Reads one more token, by the rule that its phase serves; `false` where no query goes on with it.
 fn take<'a>(parser: &mut Parser<'a>, token: Token<'a>) -> Result<bool, Want>
     requires { KnowsPrefixes parser.old.declarations }
     ensures knows { OnOk result (KnowsPrefixes parser.new.declarations) }
@@ -74,6 +75,7 @@ fn take<'a>(parser: &mut Parser<'a>, token: Token<'a>) -> Result<bool, Want>
     Ok(true)
 }
 
+/// Keeps what a token adds to the query.
 fn note<'a>(parser: &mut Parser<'a>, said: Said<'a>) -> Result<(), Want>
     requires { KnowsPrefixes parser.old.declarations }
     ensures knows { OnOk result (KnowsPrefixes parser.new.declarations) }

@@ -1,4 +1,15 @@
 //! The machine of the grammar: where in a query reading stands, and what the next token does there.
+//!
+//! Above each phase's function stand the rules that it serves, as SPARQL 1.1 Query Language, section 19.8, numbers and
+//! writes them. Of these this is read:
+//! - `[2] Query ::= Prologue ( SelectQuery | ConstructQuery | DescribeQuery | AskQuery ) ValuesClause`, of these the
+//!   `SelectQuery`, and no values;
+//! - `[7] SelectQuery ::= SelectClause DatasetClause* WhereClause SolutionModifier`, without `DatasetClause` and
+//!   `SolutionModifier`;
+//! - `[53] GroupGraphPattern ::= '{' ( SubSelect | GroupGraphPatternSub ) '}'`, with one `TriplesBlock` or nothing in it.
+//!
+//! Paths are left out, so that `TriplesSameSubjectPath` is `TriplesSameSubject`, and so are collections and brackets, so
+//! that `GraphNode` is `VarOrTerm`.
 ghost use Rattle.std.specs.Prelude.{◌≡◌};
 ghost use Rattle.query_text.specs.declared.phase.Position.TheVariants.{Object};
 ghost use Rattle.query_text.specs.Parsing.{decide, silent, prologue, prefix_word, prefix_name, select, star, columns, where_word, triples, semicolon, is_iri, node_of, verb_of, first_of_node, behind_string, behind_carets, behind_node, with_verb, separated, after_separator};
@@ -122,6 +133,9 @@ fn silent(phase: Phase<'_>) -> Option<Move<'_>>
     })
 }
 
+/// `[4] Prologue ::= ( BaseDecl | PrefixDecl )*`, without `BASE`, and
+/// `[9] SelectClause ::= 'SELECT' ( 'DISTINCT' | 'REDUCED' )? ( ( Var | ( '(' Expression 'AS' Var ')' ) )+ | '*' )`, its
+/// first word.
 fn prologue<'a>(class: Class) -> Option<Move<'a>>
     ensures { result ≡ prologue class }
 {
@@ -132,6 +146,7 @@ fn prologue<'a>(class: Class) -> Option<Move<'a>>
     }
 }
 
+/// `[6] PrefixDecl ::= 'PREFIX' PNAME_NS IRIREF`, behind its word.
 fn prefix_word(class: Class, token: Token<'_>) -> Option<Move<'_>>
     ensures { result ≡ prefix_word class token.entry }
 {
@@ -141,6 +156,7 @@ fn prefix_word(class: Class, token: Token<'_>) -> Option<Move<'_>>
     }
 }
 
+/// `[6] PrefixDecl`, behind its `PNAME_NS`.
 fn prefix_name<'a>(name: Token<'a>, class: Class, token: Token<'a>) -> Option<Move<'a>>
     ensures { result ≡ prefix_name name.entry class token.entry }
 {
@@ -153,6 +169,7 @@ fn prefix_name<'a>(name: Token<'a>, class: Class, token: Token<'a>) -> Option<Mo
     }
 }
 
+/// `[9] SelectClause` behind its word: `Var+ | '*'`.
 fn select(class: Class, token: Token<'_>) -> Option<Move<'_>>
     ensures { result ≡ select class token.entry }
 {
@@ -169,6 +186,7 @@ fn select(class: Class, token: Token<'_>) -> Option<Move<'_>>
     }
 }
 
+/// `[17] WhereClause ::= 'WHERE'? GroupGraphPattern`
 fn star<'a>(class: Class) -> Option<Move<'a>>
     ensures { result ≡ star class }
 {
@@ -179,6 +197,7 @@ fn star<'a>(class: Class) -> Option<Move<'a>>
     }
 }
 
+/// `[9] SelectClause` behind a variable: another one, or `[17] WhereClause`.
 fn columns(class: Class, token: Token<'_>) -> Option<Move<'_>>
     ensures { result ≡ columns class token.entry }
 {
@@ -191,6 +210,7 @@ fn columns(class: Class, token: Token<'_>) -> Option<Move<'_>>
     }
 }
 
+/// `[17] WhereClause` behind its word: the brace of `[53] GroupGraphPattern`.
 fn where_word<'a>(class: Class) -> Option<Move<'a>>
     ensures { result ≡ where_word class }
 {
@@ -200,7 +220,7 @@ fn where_word<'a>(class: Class) -> Option<Move<'a>>
     }
 }
 
-/// `iri`
+/// `[136] iri ::= IRIREF | PrefixedName`, where the prefix of a `PrefixedName` is declared.
 fn is_iri(class: Class) -> bool
     ensures { result ≡ is_iri class }
 {
@@ -210,7 +230,8 @@ fn is_iri(class: Class) -> bool
     )
 }
 
-/// `VarOrTerm` of one token that is no string.
+/// `[106] VarOrTerm ::= Var | GraphTerm`, of one token that is no string, with
+/// `[109] GraphTerm ::= iri | RDFLiteral | NumericLiteral | BooleanLiteral | BlankNode | NIL` (no `NIL`).
 fn node_of(class: Class, token: Token<'_>) -> Option<Node<'_>>
     ensures { result ≡ node_of class token.entry }
 {
@@ -225,7 +246,7 @@ fn node_of(class: Class, token: Token<'_>) -> Option<Node<'_>>
     }
 }
 
-/// `Verb`
+/// `[78] Verb ::= VarOrIri | 'a'`, with `[107] VarOrIri ::= Var | iri`.
 fn verb_of(class: Class, token: Token<'_>) -> Option<Node<'_>>
     ensures { result ≡ verb_of class token.entry }
 {
@@ -237,7 +258,7 @@ fn verb_of(class: Class, token: Token<'_>) -> Option<Node<'_>>
     }
 }
 
-/// The first token of a node.
+/// The first token of `[106] VarOrTerm`.
 fn first_of_node<'a>(position: Position<'a>, class: Class, token: Token<'a>) -> Option<Move<'a>>
     ensures { result ≡ first_of_node position.entry class token.entry }
 {
@@ -250,6 +271,8 @@ fn first_of_node<'a>(position: Position<'a>, class: Class, token: Token<'a>) -> 
     silent(Phase::Node(position, node))
 }
 
+/// `[55] TriplesBlock ::= TriplesSameSubjectPath ( '.' TriplesBlock? )?`, or nothing, and the brace behind it; the first
+/// token of `[75] TriplesSameSubject ::= VarOrTerm PropertyListNotEmpty | TriplesNode PropertyList` (no `TriplesNode`).
 fn triples(class: Class, token: Token<'_>) -> Option<Move<'_>>
     ensures { result ≡ triples class token.entry }
 {
@@ -259,12 +282,14 @@ fn triples(class: Class, token: Token<'_>) -> Option<Move<'_>>
     first_of_node(Position::Subject, class, token)
 }
 
+/// `[79] ObjectList ::= Object ( ',' Object )*`, the first token of an object: `[80] Object ::= GraphNode`.
 fn object<'a>(subject: Node<'a>, verb: Node<'a>, class: Class, token: Token<'a>) -> Option<Move<'a>>
     ensures { result ≡ first_of_node (Object subject.entry verb.entry) class token.entry }
 {
     first_of_node(Position::Object { subject, verb }, class, token)
 }
 
+/// `[129] RDFLiteral ::= String ( LANGTAG | ( '^^' iri ) )?`, behind its `String`.
 fn behind_string<'a>(
     position: Position<'a>,
     form: Token<'a>,
@@ -280,6 +305,7 @@ fn behind_string<'a>(
     }
 }
 
+/// `[129] RDFLiteral`, behind its `'^^'`.
 fn behind_carets<'a>(
     position: Position<'a>,
     form: Token<'a>,
@@ -300,6 +326,7 @@ fn behind_carets<'a>(
     ))
 }
 
+/// Behind a whole `[106] VarOrTerm`: a subject has a verb behind it, and an object ends a triple.
 fn behind_node<'a>(
     position: Position<'a>,
     node: Node<'a>,
@@ -321,6 +348,7 @@ fn behind_node<'a>(
     }
 }
 
+/// `[77] PropertyListNotEmpty ::= Verb ObjectList ( ';' ( Verb ObjectList )? )*`, its verb.
 fn with_verb<'a>(subject: Node<'a>, class: Class, token: Token<'a>) -> Option<Move<'a>>
     ensures { result ≡ with_verb subject.entry class token.entry }
 {
@@ -330,7 +358,7 @@ fn with_verb<'a>(subject: Node<'a>, class: Class, token: Token<'a>) -> Option<Mo
     silent(Phase::Verb { subject, verb })
 }
 
-/// What stands behind a triple.
+/// What stands behind a triple, which the token ends.
 fn separated(triple: Triple<'_>, class: Class) -> Option<Move<'_>>
     ensures { result ≡ separated triple.entry class }
 {
@@ -343,6 +371,8 @@ fn separated(triple: Triple<'_>, class: Class) -> Option<Move<'_>>
     })
 }
 
+/// The `','` of `[79] ObjectList`, the `';'` of `[77] PropertyListNotEmpty`, the `'.'` of `[55] TriplesBlock`, or the
+/// `'}'` of `[53] GroupGraphPattern`.
 fn after_separator(triple: Triple<'_>, class: Class) -> Option<Phase<'_>>
     ensures { result ≡ after_separator triple.entry class }
 {
@@ -358,6 +388,7 @@ fn after_separator(triple: Triple<'_>, class: Class) -> Option<Phase<'_>>
     }
 }
 
+/// `[77] PropertyListNotEmpty` behind a `';'`: a verb, or nothing.
 fn semicolon<'a>(subject: Node<'a>, class: Class, token: Token<'a>) -> Option<Move<'a>>
     ensures { result ≡ semicolon subject.entry class token.entry }
 {

@@ -1,19 +1,21 @@
 //! Reading the text of a query.
-ghost use Rattle.std.specs.Prelude.{◌≡◌, ◌≤◌, ◌+◌, ◌++◌, ◌&&◌, length, IfOk, IfErr, MatchResult};
+ghost use Rattle.std.specs.Prelude.{◌≡◌, ◌≤◌, ◌+◌, ◌++◌, ◌&&◌, length, IfOk, IfErr, IsErrAnd, MatchResult};
 ghost use Rattle.bgp_model.specs.Solutions.{HasPlaces};
 ghost use Rattle.bgp_model.specs.declared.query.Query.{Query as Asked};
-ghost use Rattle.query_text.specs.Meaning.{Reads, HasTerms};
+ghost use Rattle.query_text.specs.Limits.{largest_query, most_patterns};
+ghost use Rattle.query_text.specs.Meaning.{ReadsQuery, HasTerms};
 ghost use Rattle.std.specs.List.{AllByRecursion};
 ghost use Rattle.query_text.specs.Outcomes.{IsRefusal, is_end, is_whole};
 ghost use Rattle.query_text.specs.Parsing.{is_empty};
 ghost use Rattle.query_text.specs.Reading.{token_of};
-ghost use Rattle.query_text.specs.Refusals.{HasCause, IsNoMemory};
+ghost use Rattle.query_text.specs.Refusals.{IsBadText, IsNoMemory, IsNoMemoryOr, IsQueryFault};
 ghost use Rattle.std.specs.Str.{encode_utf8_all};
 
 use crate::build::query_of;
 use crate::decode::decode;
 use crate::fault::QueryFault;
 use crate::left_out::left_out;
+use crate::limits::MOST_PATTERNS;
 use crate::parse::{Parsed, parse};
 use crate::phase::Phase;
 use crate::place::{place_before, place_of};
@@ -21,20 +23,20 @@ use crate::token::Token;
 use bgp_model::Query;
 use std::alloc::Global;
 
-/// The most patterns that a query may have.
-const MOST_PATTERNS: usize = 16;
-
-/// The query that a text says (SPARQL 1.1 Query Language, section 4 and its grammar, with one basic graph pattern).
+/// The query that a text says (SPARQL 1.1 Query Language, section 4 and its grammar, with one basic graph pattern):
+/// `[1] QueryUnit ::= Query`.
 pub fn read_query(alloc: Global, text: &[u8]) -> Result<Query, QueryFault>
-    requires { length text.now ≤ 65536 }
+    requires { length text.now ≤ largest_query }
     // What is read is what the text says.
-    ensures found { IfOk result (Reads text.now) }
+    ensures found { IfOk result (ReadsQuery text.now) }
     ensures places { IfOk result HasPlaces }
     ensures terms { IfOk result (λ query. AllByRecursion HasTerms query.patterns) }
-    ensures few { IfOk result (λ query. length query.patterns ≤ 16) }
+    ensures few { IfOk result (λ query. length query.patterns ≤ most_patterns) }
     // A text says nothing else.
-    ensures only { (query : Asked) → Reads text.now query → length query.patterns ≤ 16 → MatchResult result (λ found. found ≡ query) IsNoMemory }
-    ensures fault { IfErr result (HasCause text.now) }
+    ensures only { (query : Asked) → ReadsQuery text.now query → length query.patterns ≤ most_patterns → MatchResult result (λ found. found ≡ query) IsNoMemory }
+    ensures fault { IfErr result (IsQueryFault text.now) }
+    // A text at whose place reading stops, or with too many patterns, is refused for that, or memory ran out.
+    ensures bad { (fault : QueryFault) → IsBadText text.now fault → IsErrAnd result (IsNoMemoryOr fault) }
 {
     let (characters, bad) = decode(alloc, text)?;
     let (parser, rest) = match parse(alloc, &characters)? {
@@ -54,7 +56,7 @@ pub fn read_query(alloc: Global, text: &[u8]) -> Result<Query, QueryFault>
 
 /// The refusal of a token, in a text of so many bytes with bad bytes at its end.
 fn refusal(size: usize, token: &Token, bad: &[u8]) -> QueryFault
-    requires short { size ≤ 65536 }
+    requires short { size ≤ largest_query }
     requires within { length (encode_utf8_all (token.now.characters.now ++ token.now.behind.now)) + length bad.now ≤ size }
     ensures { IsRefusal size (token_of token.now) token.now.behind.now bad.now result }
 {

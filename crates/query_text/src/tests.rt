@@ -4,11 +4,11 @@
 //! left out, marks the place at which reading stops. An answer is `at` or `out` and a word, where that is the place;
 //! `many`; or the selected variables, a colon and the patterns, with labels by their numbers.
 use super::*;
+use base_core::Want;
 use bgp_model::{Pattern, Query, Slot};
 use nt_text::write_term;
 use std::alloc::{AllocError, Global};
 use std::test::Fail;
-use term_core::Want;
 
 /// A text, and the place that is marked in it.
 #[derive(Drop)]
@@ -115,7 +115,7 @@ fn fault_shown(alloc: Global, fault: QueryFault, wanted: usize) -> Result<String
 
 fn answer(alloc: Global, line: &str) -> Result<Vec<u8>, Want> {
     let text = unmarked(alloc, line)?;
-    if text.bytes.len() > 65536 {
+    if text.bytes.len() > LARGEST_QUERY {
         return Ok(Vec::new(alloc));
     }
     match read_query(alloc, &text.bytes) {

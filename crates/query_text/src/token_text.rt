@@ -12,8 +12,9 @@ use crate::class::{Declaration, same_characters, split_name};
 use crate::kind::TokenKind;
 use crate::text_scan::{Enclosure, TextScan, closing, digit_value};
 use crate::token::Token;
+use base_core::{Text, Want};
 use std::alloc::Global;
-use term_core::{Text, Want, is_iri_character};
+use term_core::is_iri_character;
 
 /// The name of a variable, without its mark.
 pub fn name_of(alloc: Global, characters: &[char]) -> Result<Text, Want>

@@ -7,8 +7,9 @@ ghost use Rattle.query_text.specs.Building.{node_said, node_in, tagged_node};
 use crate::class::Declaration;
 use crate::phase::Node;
 use crate::token_text::{iri_of, label_of, lower_of, name_of, number_of, string_of, tag_of};
+use base_core::{Text, Want};
 use std::alloc::Global;
-use term_core::{Term, Text, Want};
+use term_core::Term;
 
 /// What stands in a position of a triple.
 #[derive(Debug, Drop)]

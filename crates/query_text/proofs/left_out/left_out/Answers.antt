@@ -1,6 +1,6 @@
 use Rattle.std.proofs.Common.{◌≡◌, true, false, refl, sym, subst, ◌∙◌, arith, below_more}
 use Rattle.query_text.specs.Reading.{token_of}
-use Rattle.query_text.specs.Refusals.{StandsFor}
+use Rattle.query_text.specs.Refusals.{TokenStandsFor}
 use Rattle.query_text.proofs.AllWords.{every_word}
 use Rattle.query_text.proofs.left_out.left_out.Goals as goal
 
@@ -13,4 +13,4 @@ words-preserved c = record {
 pub returns : goal.returns
 returns c word h =
     let at = every_word word in
-    c.words.invariant.none at.0 (omega (arith, at.1)) (subst (StandsFor (token_of c.args.token.now)) (sym at.2) h)
+    c.words.invariant.none at.0 (omega (arith, at.1)) (subst (TokenStandsFor (token_of c.args.token.now)) (sym at.2) h)
