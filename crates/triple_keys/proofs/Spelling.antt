@@ -4,7 +4,7 @@ use Rattle.std.proofs.lemmas.List.{take_all, take-append-drop, drop-drop}
 use Rattle.std.specs.Prelude.{Option, Some, None, IfSome}
 use Rattle.std.specs.Int.{w64, from_be_bytes}
 use Rattle.std.proofs.lemmas.Nat.{from_be_bytes-to_be_bytes_8}
-use Rattle.fed_bytes.specs.Numbers.{number_bytes}
+use Rattle.base_core.specs.Numbers.{number_bytes}
 use Rattle.fed_bytes.specs.Keys.{AreBytes, BeginsWith}
 use Rattle.triple_keys.specs.declared.order.Order.{Order}
 use Rattle.triple_keys.specs.declared.order.Order.TheVariants.{Spo, Pos, Osp}
@@ -154,3 +154,25 @@ span_agrees order bound a b c prefix In chosen fa fb fc sa sb sc made found ids 
     let whole = made ∙ append_assoc (bound_bytes a) (bound_bytes b) (bound_bytes c) in
     let agree = begins_agree a b c _ _ _ stand sa sb sc (small_in_order order ids small) in
     both_ways (rw whole at found (key_bytes order ids) (key_is_bytes _ _ _)) agree (rw (fa, fb, fc) (agree_in_order order bound ids))
+
+-- what two keys of one order share, they share in each order
+parts_same : (order : Order) (one other : Ids) → key_bytes order one ≡ key_bytes order other
+    → (number_bytes one.subject ≡ number_bytes other.subject) × (number_bytes one.predicate ≡ number_bytes other.predicate) × (number_bytes one.object ≡ number_bytes other.object)
+parts_same Spo one other same =
+    let a = first_number one.subject other.subject _ _ same in
+    let b = first_number one.predicate other.predicate _ _ a.1 in (a.0, b.0, b.1)
+parts_same Pos one other same =
+    let a = first_number one.predicate other.predicate _ _ same in
+    let b = first_number one.object other.object _ _ a.1 in (b.1, a.0, b.0)
+parts_same Osp one other same =
+    let a = first_number one.object other.object _ _ same in
+    let b = first_number one.subject other.subject _ _ a.1 in (b.0, b.1, a.0)
+
+same_parts : (order : Order) (one other : Ids) → number_bytes one.subject ≡ number_bytes other.subject → number_bytes one.predicate ≡ number_bytes other.predicate
+    → number_bytes one.object ≡ number_bytes other.object → key_bytes order one ≡ key_bytes order other
+same_parts Spo one other s p o = λ i. s i ++ (p i ++ o i)
+same_parts Pos one other s p o = λ i. p i ++ (o i ++ s i)
+same_parts Osp one other s p o = λ i. o i ++ (s i ++ p i)
+
+pub key_bytes-turned : (order turned : Order) (one other : Ids) → key_bytes order one ≡ key_bytes order other → key_bytes turned one ≡ key_bytes turned other
+key_bytes-turned order turned one other same = let parts = parts_same order one other same in same_parts turned one other parts.0 parts.1 parts.2

@@ -2,7 +2,7 @@
 use Rattle.std.specs.Prelude.{◌<◌, ◌↔◌, ◌^◌, ℕ, List, [], ◌++◌, Option, Some, None}
 use Rattle.fed_bytes.specs.declared.span.Span.{Span}
 use Rattle.fed_bytes.specs.Keys.{IsIn}
-use Rattle.fed_bytes.specs.Numbers.{number_bytes}
+use Rattle.base_core.specs.Numbers.{number_bytes}
 use Rattle.triple_keys.specs.declared.order.Order.{Order}
 use Rattle.triple_keys.specs.declared.order.Order.TheVariants.{Spo, Pos, Osp}
 use Rattle.triple_keys.specs.declared.order.Bound.{Bound}

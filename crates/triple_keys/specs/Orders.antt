@@ -1,5 +1,7 @@
 -- The three orders, and which of them serves which bound positions.
 use Rattle.std.specs.Prelude.{◌≡◌, ℕ, Option, Some, None}
+use Rattle.std.specs.declared.cmp.Ordering.{Ordering}
+use Rattle.std.specs.Ordering.{nat_cmp, ordering_then}
 use Rattle.triple_keys.specs.declared.order.Order.{Order}
 use Rattle.triple_keys.specs.declared.order.Order.TheVariants.{Spo, Pos, Osp}
 use Rattle.triple_keys.specs.declared.order.Bound.{Bound}
@@ -20,6 +22,13 @@ abbrev pub third_of : {A : Type 0} → Order → A → A → A → A
 third_of Spo subject predicate object = object
 third_of Pos subject predicate object = subject
 third_of Osp subject predicate object = predicate
+
+-- Ids as they stand to each other in an order: by the first ids there, where these are one by the second, and so on.
+abbrev pub ids_cmp : Order → Ids → Ids → Ordering
+ids_cmp order one other =
+    ordering_then (nat_cmp (first_of order one.subject one.predicate one.object) (first_of order other.subject other.predicate other.object))
+    (ordering_then (nat_cmp (second_of order one.subject one.predicate one.object) (second_of order other.subject other.predicate other.object))
+    (nat_cmp (third_of order one.subject one.predicate one.object) (third_of order other.subject other.predicate other.object)))
 
 -- the table of the orders, by which of subject, predicate and object are bound
 abbrev pub order_by : Option ℕ → Option ℕ → Option ℕ → Order
@@ -45,8 +54,8 @@ StandFirst (Some first) None (Some third) = ⊥
 StandFirst (Some first) (Some second) third = Unit {0}
 
 -- in the order, the bound positions stand first
-abbrev pub Serves : Order → Bound → Type 0
-Serves order bound =
+abbrev pub OrderServes : Order → Bound → Type 0
+OrderServes order bound =
     StandFirst (first_of order bound.subject bound.predicate bound.object) (second_of order bound.subject bound.predicate bound.object)
     (third_of order bound.subject bound.predicate bound.object)
 

@@ -1,12 +1,16 @@
 //! Keys of three ids.
 ghost use Rattle.std.specs.Prelude.{◌≡◌, ◌≢◌, ◌↔◌, length, IsNone, IfOk, IfSome};
+ghost use Rattle.std.specs.Ordering.{nat_cmp};
+ghost use Rattle.std.specs.Cmp.Lexicographic.{slice_cmp};
 ghost use Rattle.triple_keys.specs.Keys.{key_bytes, AreIds, ids_at};
+ghost use Rattle.triple_keys.specs.Orders.{ids_cmp};
 ghost use Rattle.triple_keys.specs.declared.key.Ids.{Ids as TheIds};
 
 use crate::order::{Order, arrange};
-use fed_bytes::{Key, get_u64, put_u64};
+use base_core::{Want, get_u64};
+use fed_bytes::Key;
 use std::alloc::Global;
-use term_core::Want;
+use std::cmp::Ordering;
 
 /// The ids of a statement's terms.
 #[derive(Clone, Copy, Debug, PartialEq, Eq)]
@@ -21,11 +25,21 @@ pub fn key_of(alloc: Global, order: Order, ids: Ids) -> Result<Key, Want>
     ensures { IfOk result (λ key. key ≡ key_bytes order ids) }
 {
     let ids = arrange(order, ids.subject, ids.predicate, ids.object);
-    let mut bytes = Vec::new(alloc);
-    put_u64(ids.first, &mut bytes)?;
-    put_u64(ids.second, &mut bytes)?;
-    put_u64(ids.third, &mut bytes)?;
-    Ok(Key::from_bytes(bytes))
+    let mut bytes = [0u8; 24];
+    bytes[..8].copy_from_slice(&ids.first.to_be_bytes());
+    bytes[8..16].copy_from_slice(&ids.second.to_be_bytes());
+    bytes[16..].copy_from_slice(&ids.third.to_be_bytes());
+    Key::of(alloc, &bytes)
+}
+
+/// How two keys of ids in an order stand to each other: as the ids do, by the first, then the second, then the third.
+pub fn compare(order: Order, one: &Ids, other: &Ids) -> Ordering
+    ensures ids { result ≡ ids_cmp order one.now other.now }
+    ensures keys { result ≡ slice_cmp nat_cmp (key_bytes order one.now) (key_bytes order other.now) }
+{
+    let one = arrange(order, one.subject, one.predicate, one.object);
+    let other = arrange(order, other.subject, other.predicate, other.object);
+    one.cmp(&other)
 }
 
 /// The ids of a key.

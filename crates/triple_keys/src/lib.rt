@@ -7,7 +7,7 @@ mod key;
 mod order;
 mod span;
 
-pub use key::{Ids, ids_of, key_of};
+pub use key::{Ids, compare, ids_of, key_of};
 pub use order::{Bound, Order, choose};
 pub use span::span_of;
 

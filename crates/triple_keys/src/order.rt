@@ -1,6 +1,6 @@
 //! The orders in which the ids of a statement stand in keys.
 ghost use Rattle.std.specs.Prelude.{◌≡◌};
-ghost use Rattle.triple_keys.specs.Orders.{order_for, Serves, first_of, second_of, third_of};
+ghost use Rattle.triple_keys.specs.Orders.{order_for, OrderServes, first_of, second_of, third_of};
 
 /// An order, named for its positions: `Pos` is predicate, object, subject.
 #[derive(Clone, Copy, Debug, PartialEq, Eq)]
@@ -19,7 +19,7 @@ pub struct Bound {
 }
 
 /// Values of the three positions, in the order of a key.
-#[derive(Clone, Copy)]
+#[derive(Clone, Copy, PartialEq, Eq, PartialOrd, Ord)]
 pub(crate) struct InOrder<T> {
     pub(crate) first: T,
     pub(crate) second: T,
@@ -29,7 +29,7 @@ pub(crate) struct InOrder<T> {
 /// The order in which the bound ids stand first.
 pub fn choose(bound: Bound) -> Order
     ensures table { result ≡ order_for bound }
-    ensures first { Serves result bound }
+    ensures first { OrderServes result bound }
 {
     match (bound.subject, bound.predicate, bound.object) {
         (None, Some(_), _) => Order::Pos,

@@ -4,9 +4,9 @@ ghost use Rattle.triple_keys.specs.Orders.{order_for};
 ghost use Rattle.triple_keys.specs.Keys.{IsBoundSpan, bound_bytes};
 
 use crate::order::{Bound, Order, arrange};
-use fed_bytes::{Span, put_u64};
+use base_core::{Want, put_u64};
+use fed_bytes::Span;
 use std::alloc::Global;
-use term_core::Want;
 
 /// The span whose keys have the bound ids, in the order in which these stand first.
 pub fn span_of(alloc: Global, order: Order, bound: Bound) -> Result<Span, Want>

@@ -1,4 +1,5 @@
 use super::*;
+use std::cmp::Ordering;
 use std::test::Fail;
 
 const IDS: Ids = Ids {
@@ -48,4 +49,16 @@ fn spans_have_the_keys_of_the_bound_ids(rt: HostRuntime) -> Result<(), Fail> {
     let other = Ids { subject: 2, ..IDS };
     assert!(rt; !span.contains(key_of(rt.alloc(), Order::Osp, other)?.bytes()));
     Ok(())
+}
+
+#[test]
+fn keys_stand_as_their_ids(rt: HostRuntime) {
+    let high = Ids {
+        subject: 256,
+        predicate: 2,
+        object: 2,
+    };
+    assert_eq!(rt; compare(Order::Spo, &IDS, &high), Ordering::Less);
+    assert_eq!(rt; compare(Order::Osp, &IDS, &high), Ordering::Greater);
+    assert_eq!(rt; compare(Order::Pos, &IDS, &IDS), Ordering::Equal);
 }
