@@ -1,9 +1,9 @@
 //! Windows of many rows.
 ghost use Rattle.std.specs.Prelude.{◌≡◌, ◌+◌, IfOk, OnOk};
 
-use fed_bytes::{Key, Span, put_u64};
+use base_core::{Want, put_u64};
+use fed_bytes::{Key, Span};
 use std::alloc::Global;
-use term_core::Want;
 use window_core::{Cell, LiveWindow, Row, Rows, Window};
 
 /// An odd number, so that different numbers have different keys, in no order.

@@ -1,16 +1,14 @@
 -- The first key from a key on, of a chunk of one key.
-use Rattle.std.proofs.Common.{◌≡◌, ◌+◌, ◌≤◌, ℕ, List, [], ◌∷◌, ◌++◌, length, refl, sym, ap, ◌∙◌, subst, arith, inl, inr}
-use Rattle.std.specs.Prelude.{◌⊎◌, Option, Some, None}
+use Rattle.std.proofs.Common.{◌≡◌, ℕ, List, [], ◌∷◌, ◌++◌, length, refl, sym, ap, ◌∙◌, subst, arith, inl, inr}
+use Rattle.std.specs.Prelude.{Option, Some, None}
 use Rattle.std.specs.List.{slice_get}
-use Rattle.term_core.specs.Lists.{Has}
+use Rattle.base_core.specs.Lists.{Has}
 use Rattle.fed_bytes.specs.Keys.{IsUpTo}
-use Rattle.fed_bytes.proofs.Orders.{up_to-itself}
 use Rattle.window_core.specs.declared.rows.Row.{Row}
 use Rattle.window_core.specs.declared.rows.Chunk.{Chunk}
 use Rattle.window_core.specs.Caller.{IsFirstKey, IsFirstAt}
-use Rattle.window_core.specs.Rows.{ComesBefore, StandInOrder, AreFrom, HaveKeys, EndsAt, IsChunk, IsLast}
-use Rattle.window_core.proofs.Lists.{of_each}
-use Rattle.window_core.proofs.Order.{up_to_later}
+use Rattle.window_core.specs.Rows.{AreFrom, HaveKeys, EndsAt, IsChunk, IsLast}
+use Rattle.window_core.proofs.Order.{up_to_any_later}
 
 no_keys_by : (keys : List (List ℕ)) → ((key : List ℕ) → Has keys key → ⊥) → length keys ≡ 0
 no_keys_by [] f = refl
@@ -31,10 +29,6 @@ first_none rows key chunk is empty row there up_to =
     let Stands : List Row → Type 0 = λ list. Has list row in
     subst Stands whole ((is.from.1 row).1 (there, up_to))
 
-least_by : (first row : Row) (rest : List Row) → StandInOrder (first ∷ rest) → Has (first ∷ rest) row → IsUpTo first.key row.key
-least_by first row rest order (inl e) = subst (λ r. IsUpTo first.key r.key) e (up_to-itself first.key)
-least_by first row rest order (inr there) = up_to_later first row (of_each (ComesBefore first) rest order.0 row there)
-
 first_some : (rows : List Row) (key : List ℕ) (chunk : Chunk) → IsChunk rows key 1 chunk → (first : Row) (others : List Row) → chunk.rows ≡ first ∷ others → IsFirstKey rows key first.key
 first_some rows key chunk is first others begins =
     let from : AreFrom rows key ((first ∷ others) ++ is.rest) = subst (λ list. AreFrom rows key (list ++ is.rest)) begins is.from in
@@ -42,7 +36,7 @@ first_some rows key chunk is first others begins =
     record {
       stands = (first, there.0, refl);
       from = there.1;
-      least = λ row stands up_to. least_by first row (others ++ is.rest) from.0 ((from.1 row).1 (stands, up_to));
+      least = λ row stands up_to. up_to_any_later first row (others ++ is.rest) from.0 ((from.1 row).1 (stands, up_to));
     }
 
 empty_by : (rows : List Row) → slice_get rows 0 ≡ None → rows ≡ []

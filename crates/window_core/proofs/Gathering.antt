@@ -1,37 +1,71 @@
 -- A chunk as it is gathered, row by row.
-use Rattle.std.proofs.Common.{◌≡◌, ◌≢◌, ◌↔◌, ◌+◌, ◌<◌, ◌≤◌, ◌^◌, ◌-◌, ℕ, List, [], ◌∷◌, ◌++◌, length, Bool, true, refl, sym, ap, ◌∙◌, subst, arith, inl, inr, append_assoc}
+use Rattle.std.proofs.Common.{◌≡◌, ◌↔◌, ◌+◌, ◌<◌, ◌≤◌, ℕ, List, [], ◌∷◌, ◌++◌, length, drop, set, get_or, true, refl, sym, ap, ◌∙◌, subst, arith, inl, inr}
 use Rattle.std.specs.Prelude.{◌⊎◌, Option, Some, None}
 use Rattle.std.specs.List.{filter}
-use Rattle.std.specs.List.Sorted.{IsStrictlySortedBy}
-use Rattle.std.specs.Map.{keys_of}
-use Rattle.std.specs.BTreeMap.Range.{entries_between}
-use Rattle.std.specs.declared.ops.Bound.TheVariants.{Included, Unbounded}
-use Rattle.term_core.specs.Lists.{Has, AreDistinct}
-use Rattle.fed_bytes.specs.declared.span.Span.{Span}
+use Rattle.std.proofs.lemmas.List.{length-set, get_or_read}
+use Rattle.base_core.specs.Lists.{Has}
 use Rattle.fed_bytes.specs.Keys.{IsBefore, IsUpTo}
-use Rattle.fed_bytes.proofs.Orders.{before_up_to, up_to-itself}
+use Rattle.fed_bytes.proofs.Orders.{before_up_to, up_to-itself, up_to-chain}
 use Rattle.window_core.specs.declared.rows.Row.{Row}
 use Rattle.window_core.specs.declared.rows.Chunk.{Chunk}
-use Rattle.window_core.specs.declared.rows.Cell.{Cell}
-use Rattle.window_core.specs.declared.place.Place.{Place}
+use Rattle.window_core.specs.Packed.{row_at}
 use Rattle.window_core.specs.Gathering.{EndWith, IsLeftBy}
-use Rattle.window_core.specs.Laws.{entries_in_order}
-use Rattle.window_core.specs.Places.{place_cmp, row_at, rows_of}
-use Rattle.window_core.specs.Rows.{ComesBefore, StandInOrder, IsWithin, AreWithin, AreFrom, AreKeysOf, HaveKeys, EndsAt, IsChunk}
+use Rattle.window_core.specs.Rows.{ComesBefore, StandInOrder, AreFrom, AreKeysOf, HaveKeys, BeginWith, EndsAt, IsChunk}
+use Rattle.window_core.specs.Runs.{reaches, all_of, merged, run_at, number_at, AreRuns, IsLeftOf, IsLeast, IsLeastOf, ArePassedTo}
 use Rattle.window_core.proofs.Lists.{of_each, in_front, behind, in_one}
-use Rattle.window_core.proofs.Order.{before_is_up_to, not_before_itself, up_to_is, up_to_later}
-use Rattle.window_core.proofs.Found.{front_in_order, front_before}
-use Rattle.window_core.proofs.Filters.{reaches, rows_between, kept, passed, filter_in_order, reached, reaches_later, reaches_own}
+use Rattle.window_core.proofs.Order.{before_is_up_to, not_before_itself, not_before_own, comes_before-chain, up_to_is, up_to_later, front_in_order, front_before, joined_in_order}
+use Rattle.window_core.proofs.Filters.{kept, passes, filter_in_order}
+use Rattle.window_core.proofs.Searching.{reached, reaches_later, reaches_own, stands_behind}
+use Rattle.window_core.proofs.Arranging.{merged_has, arranged_in_order}
+use Rattle.window_core.proofs.Merging.{has_dropped, has_at_index}
+use Rattle.window_core.proofs.Choosing.{first_left, placed, run_in_all, left_before, left_after, before_after, left_count, left_less}
 
--- of all rows these are gathered, and those are left; so many keys may still begin
-pub record IsGathered (all gathered rest : List Row) (left most : ℕ) : Type 0 where
+-- of the rows from a key on these are gathered, and the others are left; so many keys may still begin
+pub record IsGathered (runs : List (List Row)) (key : List ℕ) (rows : List Row) (passed : List ℕ) (left most : ℕ) : Type 0 where
   pub count : ℕ
-  pub whole : all ≡ gathered ++ rest
-  pub keys : HaveKeys gathered count
+  pub long : length passed ≡ length runs
+  pub in_order : StandInOrder rows
+  pub before : (row later : Row) → Has rows row → IsLeftOf runs passed (length runs) later → ComesBefore row later
+  pub are : (row : Row) → ((Has rows row ⊎ IsLeftOf runs passed (length runs) row) ↔ (Has (all_of runs) row × IsUpTo key row.key))
+  pub keys : HaveKeys rows count
   pub sum : count + left ≡ most
 
-pub gathered_none : (all : List Row) (most : ℕ) → IsGathered all [] all most most
-gathered_none all most = record { count = 0; whole = refl; keys = ([], (tt, λ key. (λ h. absurd h, λ (row, there, is). absurd there)), refl); sum = omega arith }
+-- ---- the rows from the key on
+from_by : (key : List ℕ) (time : ℕ) (row : Row) → IsBefore key row.key ⊎ ((key ≡ row.key) × (row.time ≤ time)) → IsUpTo key row.key
+from_by key time row (inl before) = before_is_up_to key row.key before
+from_by key time row (inr (same, low)) = subst (IsUpTo key) same (up_to-itself key)
+
+on_by : (key : List ℕ) (time : ℕ) (row : Row) → row.time ≤ time → IsBefore key row.key ⊎ (key ≡ row.key) → reaches key time row ≡ true
+on_by key time row low (inl before) = reaches_later key time row before
+on_by key time row low (inr same) = reaches_own key time row (sym same) low
+
+pub gathered_none : (runs : List (List Row)) (key : List ℕ) (time : ℕ) (rows : List Row) (passed : List ℕ) (most : ℕ) → ((row : Row) → Has (all_of runs) row → row.time ≤ time)
+    → ArePassedTo runs key time passed → rows ≡ [] → IsGathered runs key rows passed most most
+gathered_none runs key time rows passed most times are none = subst (λ list. IsGathered runs key list passed most most) (sym none) (record {
+  count = 0;
+  long = are.count;
+  in_order = tt;
+  before = λ row later there. absurd there;
+  are = λ row. (
+    elim [
+      | inl there ↦ absurd there
+      | inr (index, within, left) ↦ (
+        run_in_all runs index row within (has_dropped (run_at runs index) (number_at passed index) row left),
+        from_by key time row (reached key time row (of_each (λ r. reaches key time r ≡ true) (drop (number_at passed index) (run_at runs index)) (are.each index within).behind row left)),
+      )
+    ],
+    λ (there, up_to).
+        let (index, within, stands) = placed runs row there in
+        inr (
+          index,
+          within,
+          stands_behind (run_at runs index) key time (number_at passed index) (are.each index within) row stands
+              (on_by key time row (times row there) (up_to_is key row.key up_to)),
+        ),
+  );
+  keys = ([], (tt, λ k. (λ h. absurd h, λ (row, there, is). absurd there)), refl);
+  sum = omega arith;
+})
 
 -- ---- a row of the key that the rows end with
 last_stands : (rows : List Row) (key : List ℕ) → EndWith rows key → (last : Row) × Has rows last × (last.key ≡ key)
@@ -104,115 +138,250 @@ up_to_last : (front : List Row) (one last : Row) → StandInOrder (front ++ last
 up_to_last front one last order (inl there) = up_to_later one last (front_before front (last ∷ []) order one last there (inl refl))
 up_to_last front one last order (inr there) = let same = only_one last one there in subst (λ r. IsUpTo r.key last.key) same (up_to-itself last.key)
 
-ends_by : (rows : List Row) (row : Row) (rest : List Row) → StandInOrder (rows ++ row ∷ rest) → Bears rows row.key → (rows ≡ []) ⊎ EndsSome rows → EndWith rows row.key
+ends_by : (rows : List Row) (row : Row) → StandInOrder (rows ++ row ∷ []) → Bears rows row.key → (rows ≡ []) ⊎ EndsSome rows → EndWith rows row.key
 unfolding EndsSome
-ends_by rows row rest order (one, there, is) (inl empty) = let Stands : List Row → Type 0 = λ list. Has list one in absurd (subst Stands empty there)
-ends_by rows row rest order (one, there, is) (inr (front, last, whole)) =
+ends_by rows row order (one, there, is) (inl empty) = let Stands : List Row → Type 0 = λ list. Has list one in absurd (subst Stands empty there)
+ends_by rows row order (one, there, is) (inr (front, last, whole)) =
     let Stands : List Row → Type 0 = λ list. Has list one in
-    let low = up_to_last front one last (subst StandInOrder whole (front_in_order rows (row ∷ rest) order)) (in_one front (last ∷ []) one (subst Stands whole there)) in
+    let low = up_to_last front one last (subst StandInOrder whole (front_in_order rows (row ∷ []) order)) (in_one front (last ∷ []) one (subst Stands whole there)) in
     let Last : List Row → Type 0 = λ list. Has list last in
     let stands = subst Last (sym whole) (behind front (last ∷ []) last (inl refl)) in
-    let high = up_to_is last.key row.key (up_to_later last row (front_before rows (row ∷ rest) order last row stands (inl refl))) in
+    let high = up_to_is last.key row.key (up_to_later last row (front_before rows (row ∷ []) order last row stands (inl refl))) in
     (front, last, whole, between_same last row (subst (λ key. IsUpTo key last.key) is low) high)
 
-ends_key : (rows : List Row) (row : Row) (rest : List Row) → StandInOrder (rows ++ row ∷ rest) → Bears rows row.key → EndWith rows row.key
-ends_key rows row rest order bears = ends_by rows row rest order bears (by_end rows)
+ends_key : (rows : List Row) (row : Row) → StandInOrder (rows ++ row ∷ []) → Bears rows row.key → EndWith rows row.key
+ends_key rows row order bears = ends_by rows row order bears (by_end rows)
 
 -- ---- one more row
-more_by : (all rows : List Row) (row : Row) (rest : List Row) (left others most : ℕ) → StandInOrder (rows ++ row ∷ rest) → IsGathered all rows (row ∷ rest) left most
-    → (EndWith rows row.key × (others ≡ left)) ⊎ ((EndWith rows row.key → ⊥) × (others + 1 ≡ left)) → IsGathered all (rows ++ row ∷ []) rest others most
-more_by all rows row rest left others most order is (inl (ends, same)) = record {
-  count = is.count;
-  whole = is.whole ∙ sym (append_assoc rows (row ∷ []) rest);
-  keys = same_keys rows row is.count is.keys ends;
-  sum = omega (arith, is.sum);
-}
-more_by all rows row rest left others most order is (inr (fresh, less)) = record {
-  count = is.count + 1;
-  whole = is.whole ∙ sym (append_assoc rows (row ∷ []) rest);
-  keys = new_keys rows row is.count is.keys (λ bears. fresh (ends_key rows row rest order bears));
-  sum = omega (arith, is.sum);
-}
+more_in_order : (runs : List (List Row)) (key : List ℕ) (rows : List Row) (passed : List ℕ) (left most index : ℕ) → IsGathered runs key rows passed left most
+    → IsLeastOf runs passed (length runs) index → StandInOrder (rows ++ first_left runs passed index ∷ [])
+more_in_order runs key rows passed left most index is least =
+    joined_in_order rows (first_left runs passed index ∷ []) is.in_order (tt, tt)
+    (λ one other there later. is.before one other there
+    (subst (IsLeftOf runs passed (length runs)) (only_one (first_left runs passed index) other later) (index, least.there, has_at_index (run_at runs index) (number_at passed index) least.left)))
 
-pub gathered_more : (all rows : List Row) (row : Row) (rest : List Row) (left others most : ℕ) → StandInOrder all → IsGathered all rows (row ∷ rest) left most
-    → IsLeftBy rows row.key left (Some others) → IsGathered all (rows ++ row ∷ []) rest others most
-gathered_more all rows row rest left others most order is step = more_by all rows row rest left others most (subst StandInOrder is.whole order) is step
+pub record IsCounted (rows : List Row) (left most : ℕ) : Type 0 where
+  pub count : ℕ
+  pub keys : HaveKeys rows count
+  pub sum : count + left ≡ most
 
-pub gathered_step : (all rows : List Row) (before after : List (Place × Cell)) (entry : Place × Cell) (left others most : ℕ) → StandInOrder all
-    → IsGathered all rows (rows_of before) left most → before ≡ entry ∷ after → (seen : List Row) → seen ≡ rows → IsLeftBy seen entry.0.key left (Some others)
-    → (row : Row) → row ≡ row_at entry → (made : List Row) → made ≡ rows ++ row ∷ [] → IsGathered all made (rows_of after) others most
-gathered_step all rows before after entry left others most order is begins seen same step row taken made more =
-    let at = subst (λ entries. IsGathered all rows (rows_of entries) left most) begins is in
-    let left_by = subst (λ list. IsLeftBy list entry.0.key left (Some others)) same step in
-    let result = gathered_more all rows (row_at entry) (rows_of after) left others most order at left_by in
-    subst (λ list. IsGathered all list (rows_of after) others most) (sym (more ∙ ap (λ r. rows ++ r ∷ []) taken)) result
+counted_by : (rows : List Row) (row : Row) (count left others most : ℕ) → StandInOrder (rows ++ row ∷ []) → HaveKeys rows count → count + left ≡ most
+    → (EndWith rows row.key × (others ≡ left)) ⊎ ((EndWith rows row.key → ⊥) × (others + 1 ≡ left)) → IsCounted (rows ++ row ∷ []) others most
+counted_by rows row count left others most order keys sum (inl (ends, same)) = record { count = count; keys = same_keys rows row count keys ends; sum = omega (arith, sum, same) }
+counted_by rows row count left others most order keys sum (inr (fresh, less)) =
+    record { count = count + 1; keys = new_keys rows row count keys (λ bears. fresh (ends_key rows row order bears)); sum = omega (arith, sum, less) }
 
--- ---- the rows from a key on
-from_by : (key : List ℕ) (upto : ℕ) (row : Row) → IsBefore key row.key ⊎ ((key ≡ row.key) × (row.time ≤ upto)) → IsUpTo key row.key
-from_by key upto row (inl before) = before_is_up_to key row.key before
-from_by key upto row (inr (same, low)) = subst (IsUpTo key) same (up_to-itself key)
+pub gathered_more : (runs : List (List Row)) (key : List ℕ) (rows : List Row) (passed : List ℕ) (left others most index : ℕ) → AreRuns runs
+    → IsGathered runs key rows passed left most → IsLeastOf runs passed (length runs) index → IsLeftBy rows (first_left runs passed index).key left (Some others)
+    → IsGathered runs key (rows ++ first_left runs passed index ∷ []) (set passed index (number_at passed index + 1)) others most
+gathered_more runs key rows passed left others most index are is least step =
+    let row = first_left runs passed index in
+    let stands : index < length passed = let there = least.there in let long = is.long in omega (arith, there, long) in
+    let own : IsLeftOf runs passed (length runs) row = (index, least.there, has_at_index (run_at runs index) (number_at passed index) least.left) in
+    let counted = counted_by rows row is.count left others most (more_in_order runs key rows passed left most index is least) is.keys is.sum step in
+    record {
+      count = counted.count;
+      long = length-set passed index (number_at passed index + 1) ∙ is.long;
+      in_order = more_in_order runs key rows passed left most index is least;
+      before = λ one later there after. elim (in_one rows (row ∷ []) one there) [
+        | inl h ↦ is.before one later h (left_before runs passed index later stands least.there least.left after)
+        | inr h ↦ subst (λ r. ComesBefore r later) (only_one row one h) (before_after runs passed index later are stands least.there least after)
+      ];
+      are = λ other. (
+        elim [
+          | inl there ↦ (elim (in_one rows (row ∷ []) other there) [
+            | inl h ↦ (is.are other).0 (inl h)
+            | inr h ↦ (is.are other).0 (inr (subst (IsLeftOf runs passed (length runs)) (only_one row other h) own))
+          ])
+          | inr after ↦ (is.are other).0 (inr (left_before runs passed index other stands least.there least.left after))
+        ],
+        λ there. elim ((is.are other).1 there) [
+          | inl h ↦ inl (in_front rows (row ∷ []) other h)
+          | inr h ↦ (elim (left_after runs passed index other stands least.there least.left h) [
+            | inl e ↦ inl (behind rows (row ∷ []) other (inl e))
+            | inr after ↦ inr after
+          ])
+        ],
+      );
+      keys = counted.keys;
+      sum = counted.sum;
+    }
 
-on_by : (key : List ℕ) (upto : ℕ) (row : Row) → row.time ≤ upto → IsBefore key row.key ⊎ (key ≡ row.key) → reaches key upto row ≡ true
-on_by key upto row low (inl before) = reaches_later key upto row before
-on_by key upto row low (inr same) = reaches_own key upto row (sym same) low
+pub gathered_step : (runs : List (List Row)) (key : List ℕ) (rows : List Row) (passed : List ℕ) (left others most index : ℕ) → AreRuns runs
+    → IsGathered runs key rows passed left most → IsLeast runs passed (length runs) (Some index) → (seen : List Row) → seen ≡ rows
+    → (own : List ℕ) → own ≡ (first_left runs passed index).key → IsLeftBy seen own left (Some others)
+    → (row : Row) → row ≡ first_left runs passed index → (made : List Row) → made ≡ rows ++ row ∷ [] → (after : List ℕ) → after ≡ set passed index (number_at passed index + 1)
+    → IsGathered runs key made after others most
+gathered_step runs key rows passed left others most index are is least seen same own named step row taken made more after put =
+    let by_rows = subst (λ list. IsLeftBy list own left (Some others)) same step in
+    let by_key = subst (λ k. IsLeftBy rows k left (Some others)) named by_rows in
+    let result = gathered_more runs key rows passed left others most index are is least by_key in
+    subst (λ list. IsGathered runs key list after others most) (sym (more ∙ ap (λ r. rows ++ r ∷ []) taken))
+    (subst (λ list. IsGathered runs key (rows ++ first_left runs passed index ∷ []) list others most) (sym put) result)
 
-from_reached : (rows : List Row) (span : Span) (from upto : ℕ) (key : List ℕ) → AreWithin span from upto rows → StandInOrder rows
-    → AreFrom rows key (filter (reaches key upto) rows)
-from_reached rows span from upto key within order = (
-  filter_in_order (reaches key upto) rows order,
+-- ---- a chunk that is done
+-- no row is left
+all_by : (runs : List (List Row)) (key : List ℕ) (most : ℕ) (rows : List Row) (passed : List ℕ) (left : ℕ) → AreRuns runs → IsGathered runs key rows passed left most
+    → ((row : Row) → IsLeftOf runs passed (length runs) row → ⊥) → AreFrom (merged runs) key (rows ++ [])
+all_by runs key most rows passed left are is none = (
+  joined_in_order rows [] is.in_order tt (λ one other there later. absurd later),
   λ row. (
-    λ there. let passes = passed (reaches key upto) rows row there in (passes.0, from_by key upto row (reached key upto row passes.1)),
-    λ (there, up_to). let low = of_each (IsWithin span from upto) rows within row there in
-        kept (reaches key upto) rows row there (on_by key upto row low.at_most (up_to_is key row.key up_to)),
+    λ there. elim (in_one rows [] row there) [
+      | inl h ↦ (let stands = (is.are row).0 (inl h) in ((merged_has runs are row).1 stands.0, stands.1))
+      | inr h ↦ absurd h
+    ],
+    λ (there, up_to). elim ((is.are row).1 ((merged_has runs are row).0 there, up_to)) [ inl h ↦ in_front rows [] row h | inr h ↦ absurd (none row h) ],
   ),
 )
 
-pub from_between : (entries between : List (Place × Cell)) (sought : Place) (key : List ℕ) (span : Span) (from upto : ℕ) → sought.key ≡ key → sought.time ≡ upto
-    → IsStrictlySortedBy place_cmp (keys_of entries) → between ≡ entries_between place_cmp (Included sought) Unbounded entries
-    → AreWithin span from upto (rows_of entries) → AreFrom (rows_of entries) key (rows_of between)
-from_between entries between sought key span from upto same_key same_time sorted is within =
-    let whole = ap rows_of is ∙ rows_between sought entries ∙ (λ i. filter (reaches (same_key i) (same_time i)) (rows_of entries)) in
-    subst (AreFrom (rows_of entries) key) (sym whole) (from_reached (rows_of entries) span from upto key within (entries_in_order entries sorted))
-
--- ---- a chunk that is done
-full_by : (rows : List Row) (key : List ℕ) (most : ℕ) (all gathered : List Row) (row : Row) (rest : List Row) (left : ℕ) → AreFrom rows key all
-    → IsGathered all gathered (row ∷ rest) left most → IsLeftBy gathered row.key left None
-    → (chunk : Chunk) → chunk.rows ≡ gathered → chunk.next ≡ Some row.key → IsChunk rows key most chunk
-full_by rows key most all gathered row rest left from is full chunk has next =
-    let order : StandInOrder (gathered ++ row ∷ rest) = subst StandInOrder is.whole from.0 in
-    let Ends : Option (List ℕ) → List Row → Type 0 = λ n list. EndsAt n most is.count list (row ∷ rest) in
-    let ends : Ends (Some row.key) gathered = (refl, omega (arith, is.sum, full.1), λ one there same. full.0 (ends_key gathered row rest order (one, there, same))) in
-    record {
-      rest = row ∷ rest;
-      count = is.count;
-      from = subst (λ list. AreFrom rows key (list ++ row ∷ rest)) (sym has) (subst (AreFrom rows key) is.whole from);
-      keys = subst (λ list. HaveKeys list is.count) (sym has) is.keys;
-      ends = subst (λ n. Ends n chunk.rows) (sym next) (subst (Ends (Some row.key)) (sym has) ends);
-    }
-
-all_by : (rows : List Row) (key : List ℕ) (most : ℕ) (all gathered : List Row) (left : ℕ) → AreFrom rows key all
-    → IsGathered all gathered [] left most → (chunk : Chunk) → chunk.rows ≡ gathered → chunk.next ≡ None → IsChunk rows key most chunk
-all_by rows key most all gathered left from is chunk has next =
+pub chunk_all : (runs : List (List Row)) (key : List ℕ) (most : ℕ) (rows : List Row) (passed : List ℕ) (left : ℕ) → AreRuns runs → IsGathered runs key rows passed left most
+    → IsLeast runs passed (length runs) None → (chunk : Chunk) → chunk.rows ≡ rows → chunk.next ≡ None → IsChunk (merged runs) key most chunk
+chunk_all runs key most rows passed left are is none chunk has next =
     let Ends : Option (List ℕ) → List Row → Type 0 = λ n list. EndsAt n most is.count list [] in
-    let ends : Ends None gathered = (refl, omega (arith, is.sum)) in
+    let ends : Ends None rows = (refl, let sum = is.sum in omega (arith, sum)) in
     record {
       rest = [];
       count = is.count;
-      from = subst (λ list. AreFrom rows key (list ++ [])) (sym has) (subst (AreFrom rows key) is.whole from);
+      from = subst (λ list. AreFrom (merged runs) key (list ++ [])) (sym has) (all_by runs key most rows passed left are is none);
       keys = subst (λ list. HaveKeys list is.count) (sym has) is.keys;
       ends = subst (λ n. Ends n chunk.rows) (sym next) (subst (Ends None) (sym has) ends);
     }
 
-pub chunk_full : (rows : List Row) (key : List ℕ) (most : ℕ) (all gathered : List Row) (before after : List (Place × Cell)) (entry : Place × Cell) (left : ℕ)
-    → AreFrom rows key all → IsGathered all gathered (rows_of before) left most → before ≡ entry ∷ after
-    → (seen : List Row) → seen ≡ gathered → IsLeftBy seen entry.0.key left None
-    → (chunk : Chunk) → chunk.rows ≡ gathered → chunk.next ≡ Some entry.0.key → IsChunk rows key most chunk
-chunk_full rows key most all gathered before after entry left from is begins seen same full chunk has next =
-    full_by rows key most all gathered (row_at entry) (rows_of after) left from (subst (λ entries. IsGathered all gathered (rows_of entries) left most) begins is)
-    (subst (λ list. IsLeftBy list entry.0.key left None) same full) chunk has next
+-- the rows from a row on
+abbrev rest_from : List (List Row) → Row → List Row
+rest_from runs row = filter (reaches row.key row.time) (merged runs)
 
-pub chunk_all : (rows : List Row) (key : List ℕ) (most : ℕ) (all gathered : List Row) (before : List (Place × Cell)) (left : ℕ) → AreFrom rows key all
-    → IsGathered all gathered (rows_of before) left most → before ≡ []
-    → (chunk : Chunk) → chunk.rows ≡ gathered → chunk.next ≡ None → IsChunk rows key most chunk
-chunk_all rows key most all gathered before left from is ends chunk has next =
-    all_by rows key most all gathered left from (subst (λ entries. IsGathered all gathered (rows_of entries) left most) ends is) chunk has next
+reaches_from : (row later : Row) → (row ≡ later) ⊎ ComesBefore row later → reaches row.key row.time later ≡ true
+reaches_from row later (inl e) = subst (λ r. reaches row.key row.time r ≡ true) e (reaches_own row.key row.time row refl (omega arith))
+reaches_from row later (inr (inl before)) = reaches_later row.key row.time later before
+reaches_from row later (inr (inr (same, older))) = reaches_own row.key row.time later (sym same) (omega (arith, older))
+
+from_reached : (row later : Row) → IsBefore row.key later.key ⊎ ((row.key ≡ later.key) × (later.time ≤ row.time)) → IsUpTo row.key later.key
+from_reached row later h = from_by row.key row.time later h
+
+-- a row before `row` isn't reached from there
+not_reached : (row earlier : Row) → ComesBefore earlier row → IsBefore row.key earlier.key ⊎ ((row.key ≡ earlier.key) × (earlier.time ≤ row.time)) → ⊥
+not_reached row earlier p (inl before) = not_before_itself row.key (before_up_to row.key earlier.key row.key before (up_to_later earlier row p))
+not_reached row earlier (inl before) (inr (same, low)) = not_before_itself earlier.key (subst (IsBefore earlier.key) same before)
+not_reached row earlier (inr (again, later)) (inr (same, low)) = absurd (omega (arith, later, low))
+
+rest_left : (runs : List (List Row)) (key : List ℕ) (most : ℕ) (rows : List Row) (passed : List ℕ) (left index : ℕ) → AreRuns runs → IsGathered runs key rows passed left most
+    → IsLeastOf runs passed (length runs) index → (later : Row) → Has (rest_from runs (first_left runs passed index)) later → IsLeftOf runs passed (length runs) later
+rest_left runs key most rows passed left index are is least later there =
+    let row = first_left runs passed index in
+    let own : IsLeftOf runs passed (length runs) row = (index, least.there, has_at_index (run_at runs index) (number_at passed index) least.left) in
+    let (stands, h) = passes (reaches row.key row.time) (merged runs) later there in
+    let after = reached row.key row.time later h in
+    let low = ((is.are row).0 (inr own)).1 in
+    elim ((is.are later).1 ((merged_has runs are later).0 stands, up_to-chain key row.key later.key low (from_reached row later after))) [
+      | inl gathered ↦ absurd (not_reached row later (is.before later row gathered own) after)
+      | inr h ↦ h
+    ]
+
+full_by : (runs : List (List Row)) (key : List ℕ) (most : ℕ) (rows : List Row) (passed : List ℕ) (left index : ℕ) → AreRuns runs → IsGathered runs key rows passed left most
+    → IsLeastOf runs passed (length runs) index → AreFrom (merged runs) key (rows ++ rest_from runs (first_left runs passed index))
+full_by runs key most rows passed left index are is least =
+    let row = first_left runs passed index in
+    let rest = rest_from runs row in (
+      joined_in_order rows rest is.in_order (filter_in_order (reaches row.key row.time) (merged runs) (arranged_in_order (all_of runs)))
+          (λ one other there later. is.before one other there (rest_left runs key most rows passed left index are is least other later)),
+      λ other. (
+        λ there. elim (in_one rows rest other there) [
+          | inl h ↦ (let stands = (is.are other).0 (inl h) in ((merged_has runs are other).1 stands.0, stands.1))
+          | inr h ↦ (let stands = (is.are other).0 (inr (rest_left runs key most rows passed left index are is least other h)) in ((merged_has runs are other).1 stands.0, stands.1))
+        ],
+        λ (there, up_to). elim ((is.are other).1 ((merged_has runs are other).0 there, up_to)) [
+          | inl h ↦ in_front rows rest other h
+          | inr h ↦ behind rows rest other (kept (reaches row.key row.time) (merged runs) other there (reaches_from row other (least.least other h)))
+        ],
+      ),
+    )
+
+begin_by : (row first : Row) (others : List Row) → StandInOrder (first ∷ others) → (row ≡ first) ⊎ ComesBefore row first → (first ≡ row) ⊎ Has others row → first.key ≡ row.key
+begin_by row first others order (inl e) there = ap (λ r. r.key) (sym e)
+begin_by row first others order (inr p) (inl e) = ap (λ r. r.key) e
+begin_by row first others order (inr p) (inr h) = absurd (not_before_own row (comes_before-chain row first row p (of_each (ComesBefore first) others order.0 row h)))
+
+begins : (row : Row) (rest : List Row) → StandInOrder rest → Has rest row → ((later : Row) → Has rest later → (row ≡ later) ⊎ ComesBefore row later) → BeginWith row.key rest
+begins row [] order there f = absurd there
+begins row (first ∷ others) order there f = begin_by row first others order (f first (inl refl)) there
+
+rest_begins : (runs : List (List Row)) (key : List ℕ) (most : ℕ) (rows : List Row) (passed : List ℕ) (left index : ℕ) → AreRuns runs → IsGathered runs key rows passed left most
+    → IsLeastOf runs passed (length runs) index → BeginWith (first_left runs passed index).key (rest_from runs (first_left runs passed index))
+rest_begins runs key most rows passed left index are is least =
+    let row = first_left runs passed index in
+    let own : IsLeftOf runs passed (length runs) row = (index, least.there, has_at_index (run_at runs index) (number_at passed index) least.left) in
+    let there = (merged_has runs are row).1 ((is.are row).0 (inr own)).0 in
+    begins row (rest_from runs row) (filter_in_order (reaches row.key row.time) (merged runs) (arranged_in_order (all_of runs)))
+    (kept (reaches row.key row.time) (merged runs) row there (reaches_from row row (inl refl)))
+    (λ later h. least.least later (rest_left runs key most rows passed left index are is least later h))
+
+pub chunk_full : (runs : List (List Row)) (key : List ℕ) (most : ℕ) (rows : List Row) (passed : List ℕ) (left index : ℕ) → AreRuns runs → IsGathered runs key rows passed left most
+    → IsLeast runs passed (length runs) (Some index) → (seen : List Row) → seen ≡ rows → (own : List ℕ) → own ≡ (first_left runs passed index).key → IsLeftBy seen own left None
+    → (chunk : Chunk) → chunk.rows ≡ rows → (next : List ℕ) → next ≡ (first_left runs passed index).key → chunk.next ≡ Some next → IsChunk (merged runs) key most chunk
+chunk_full runs key most rows passed left index are is least seen same own named full chunk has next told follows =
+    let row = first_left runs passed index in
+    let by_rows = subst (λ list. IsLeftBy list own left None) same full in
+    let done : IsLeftBy rows row.key left None = subst (λ k. IsLeftBy rows k left None) named by_rows in
+    let rest = rest_from runs row in
+    let Ends : Option (List ℕ) → List Row → Type 0 = λ n list. EndsAt n most is.count list rest in
+    let ends : Ends (Some row.key) rows = (
+      rest_begins runs key most rows passed left index are is least,
+      let sum = is.sum in let zero = done.1 in omega (arith, sum, zero),
+      λ one there e. done.0 (ends_key rows row (more_in_order runs key rows passed left most index is least) (one, there, e)),
+    ) in
+    record {
+      rest = rest;
+      count = is.count;
+      from = subst (λ list. AreFrom (merged runs) key (list ++ rest)) (sym has) (full_by runs key most rows passed left index are is least);
+      keys = subst (λ list. HaveKeys list is.count) (sym has) is.keys;
+      ends = subst (λ n. Ends n chunk.rows) (sym (follows ∙ ap Some told)) (subst (Ends (Some row.key)) (sym has) ends);
+    }
+
+-- ---- what was read of the runs
+first_read : (runs : List (List Row)) (passed : List ℕ) (index at : ℕ) (run : List Row) → index < length runs → index < length passed → at ≡ get_or passed index at → run ≡ get_or runs index run
+    → row_at run at ≡ first_left runs passed index
+first_read runs passed index at run within stands number read =
+    let run_is = get_or_read runs index run within read [] in
+    let at_is = get_or_read passed index at stands number 0 in
+    (λ i. row_at (run_is i) (at_is i))
+
+stands_by : (runs : List (List Row)) (key : List ℕ) (rows : List Row) (passed : List ℕ) (left most index : ℕ) → IsGathered runs key rows passed left most → index < length runs → index < length passed
+stands_by runs key rows passed left most index is there = let long = is.long in omega (arith, there, long)
+
+least_seen : (runs : List (List Row)) (passed seen : List ℕ) (found : Option ℕ) → seen ≡ passed → IsLeast runs seen (length runs) found → IsLeast runs passed (length runs) found
+least_seen runs passed seen found same is = subst (λ list. IsLeast runs list (length runs) found) same is
+
+pub step_read : (runs : List (List Row)) (key : List ℕ) (rows : List Row) (passed seen : List ℕ) (left others most index at : ℕ) (run again : List Row) → AreRuns runs
+    → IsGathered runs key rows passed left most → seen ≡ passed → IsLeast runs seen (length runs) (Some index) → at ≡ get_or passed index at → run ≡ get_or runs index run
+    → again ≡ get_or runs index again → (shown : List Row) → shown ≡ rows → (own : List ℕ) → own ≡ (row_at run at).key → IsLeftBy shown own left (Some others)
+    → (row : Row) → row ≡ row_at again at → (made : List Row) → made ≡ rows ++ row ∷ [] → IsGathered runs key made (set passed index (at + 1)) others most
+step_read runs key rows passed seen left others most index at run again are is same found number read anew shown shows own named step row taken made more =
+    let least = least_seen runs passed seen (Some index) same found in
+    let stands = stands_by runs key rows passed left most index is least.there in
+    gathered_step runs key rows passed left others most index are is least shown shows
+    own (named ∙ ap (λ r. r.key) (first_read runs passed index at run least.there stands number read)) step
+    row (taken ∙ first_read runs passed index at again least.there stands number anew) made more
+    (set passed index (at + 1)) (ap (λ n. set passed index (n + 1)) (get_or_read passed index at stands number 0))
+
+pub less_read : (runs : List (List Row)) (key : List ℕ) (rows : List Row) (passed seen : List ℕ) (left most index at : ℕ) → IsGathered runs key rows passed left most → seen ≡ passed
+    → IsLeast runs seen (length runs) (Some index) → at ≡ get_or passed index at → left_count runs (set passed index (at + 1)) < left_count runs passed
+less_read runs key rows passed seen left most index at is same found number =
+    let least = least_seen runs passed seen (Some index) same found in
+    let stands = stands_by runs key rows passed left most index is least.there in
+    subst (λ n. left_count runs (set passed index (n + 1)) < left_count runs passed) (sym (get_or_read passed index at stands number 0)) (left_less runs passed index least.there stands least.left)
+
+pub full_read : (runs : List (List Row)) (key : List ℕ) (most : ℕ) (rows : List Row) (passed seen : List ℕ) (left index at : ℕ) (run again : List Row) → AreRuns runs
+    → IsGathered runs key rows passed left most → seen ≡ passed → IsLeast runs seen (length runs) (Some index) → at ≡ get_or passed index at → run ≡ get_or runs index run
+    → again ≡ get_or runs index again → (shown : List Row) → shown ≡ rows → (own : List ℕ) → own ≡ (row_at run at).key → IsLeftBy shown own left None
+    → (chunk : Chunk) → chunk.rows ≡ rows → (next : List ℕ) → next ≡ (row_at again at).key → chunk.next ≡ Some next → IsChunk (merged runs) key most chunk
+full_read runs key most rows passed seen left index at run again are is same found number read anew shown shows own named full chunk has next told follows =
+    let least = least_seen runs passed seen (Some index) same found in
+    let stands = stands_by runs key rows passed left most index is least.there in
+    chunk_full runs key most rows passed left index are is least shown shows
+    own (named ∙ ap (λ r. r.key) (first_read runs passed index at run least.there stands number read)) full chunk has
+    next (told ∙ ap (λ r. r.key) (first_read runs passed index at again least.there stands number anew)) follows
+
+pub all_read : (runs : List (List Row)) (key : List ℕ) (most : ℕ) (rows : List Row) (passed seen : List ℕ) (left : ℕ) → AreRuns runs → IsGathered runs key rows passed left most
+    → seen ≡ passed → IsLeast runs seen (length runs) None → (chunk : Chunk) → chunk.rows ≡ rows → chunk.next ≡ None → IsChunk (merged runs) key most chunk
+all_read runs key most rows passed seen left are is same none chunk has next = chunk_all runs key most rows passed left are is (least_seen runs passed seen None same none) chunk has next

@@ -1,9 +1,15 @@
-pub mod Adding
+pub mod Arranging
+pub mod Choosing
 pub mod Filters
 pub mod FirstKey
 pub mod Found
 pub mod Gathering
+pub mod Holding
+pub mod Joining
 pub mod Lists
+pub mod Merging
 pub mod Order
-pub mod Places
+pub mod Packing
+pub mod Passage
 pub mod Searching
+pub mod Taking

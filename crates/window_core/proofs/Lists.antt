@@ -1,8 +1,8 @@
 -- Lists read as sets, and what holds of each element.
-use Rattle.std.proofs.Common.{◌≡◌, ◌↔◌, List, [], ◌∷◌, ◌++◌, refl, sym, subst, inl, inr, ⊎_elim}
+use Rattle.std.proofs.Common.{List, [], ◌∷◌, ◌++◌, refl, subst, inl, inr}
 use Rattle.std.specs.Prelude.{◌⊎◌}
 use Rattle.std.specs.List.{AllByRecursion}
-use Rattle.term_core.specs.Lists.{Has}
+use Rattle.base_core.specs.Lists.{Has}
 
 -- what holds of each element holds of one that stands in the list
 pub of_each : {A : Type 0} (P : A → Type 0) (xs : List A) → AllByRecursion P xs → (x : A) → Has xs x → P x
@@ -17,6 +17,10 @@ each P (y ∷ xs) f = (f y (inl refl), each P xs (λ x h. f x (inr h)))
 pub each_weaker : {A : Type 0} (P Q : A → Type 0) (xs : List A) → ((x : A) → P x → Q x) → AllByRecursion P xs → AllByRecursion Q xs
 each_weaker P Q [] f all = tt
 each_weaker P Q (x ∷ xs) f all = (f x all.0, each_weaker P Q xs f all.1)
+
+pub all_of_both : {A : Type 0} (P : A → Type 0) (xs ys : List A) → AllByRecursion P xs → AllByRecursion P ys → AllByRecursion P (xs ++ ys)
+all_of_both P [] ys first second = second
+all_of_both P (x ∷ xs) ys first second = (first.0, all_of_both P xs ys first.1 second)
 
 pub in_front : {A : Type 0} (xs ys : List A) (z : A) → Has xs z → Has (xs ++ ys) z
 in_front [] ys z h = absurd h

@@ -1,6 +1,6 @@
 -- What a caller of a window finds.
-use Rattle.std.specs.Prelude.{◌≡◌, ℕ, List, Option, Some, None, ◌⊎◌}
-use Rattle.term_core.specs.Lists.{Has}
+use Rattle.std.specs.Prelude.{◌≡◌, ℕ, List, Option, None, ◌⊎◌}
+use Rattle.base_core.specs.Lists.{Has}
 use Rattle.fed_bytes.specs.Keys.{IsUpTo}
 use Rattle.window_core.specs.declared.rows.Row.{Row}
 use Rattle.window_core.specs.Rows.{IsLast}

@@ -1,4 +1,4 @@
--- How rows are gathered into a chunk, key by key.
+-- Private: how rows are gathered into a chunk, key by key.
 use Rattle.std.specs.Prelude.{◌≡◌, ℕ, ◌+◌, List, [], ◌∷◌, ◌++◌, Option, Some, None, ◌⊎◌}
 use Rattle.window_core.specs.declared.rows.Row.{Row}
 

@@ -1,8 +1,8 @@
-pub mod Adding
 pub mod Caller
 pub mod Gathering
 pub mod Held
 pub mod Laws
-pub mod Places
+pub mod Packed
 pub mod Rows
+pub mod Runs
 pub mod Windows

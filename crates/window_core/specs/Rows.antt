@@ -1,7 +1,7 @@
 -- Rows: how they stand, which are the newest, and what a chunk of them is.
 use Rattle.std.specs.Prelude.{◌≡◌, ◌≢◌, ℕ, ◌<◌, ◌≤◌, ◌↔◌, List, [], ◌∷◌, ◌++◌, length, Option, Some, None, ◌⊎◌}
 use Rattle.std.specs.List.{AllByRecursion}
-use Rattle.term_core.specs.Lists.{Has, AreDistinct}
+use Rattle.base_core.specs.Lists.{Has, AreDistinct}
 use Rattle.fed_bytes.specs.declared.span.Span.{Span}
 use Rattle.fed_bytes.specs.Keys.{IsBefore, IsUpTo, IsIn}
 use Rattle.window_core.specs.declared.rows.Row.{Row}
@@ -75,3 +75,8 @@ pub record AreExtended (span : Span) (rows added extended : List Row) : Type 0 w
 pub record AreChanges (time : ℕ) (rows : List Row) : Type 0 where
   pub in_order : StandInOrder rows
   pub times : AllByRecursion (λ row. row.time ≡ time) rows
+
+-- each key stands before all that stand behind it
+abbrev pub Rise : List (List ℕ) → Type 0
+Rise [] = Unit {0}
+Rise (key ∷ keys) = AllByRecursion (IsBefore key) keys × Rise keys

@@ -1,6 +1,6 @@
 //! A caller of windows of any kind, over any device.
-ghost use Rattle.std.specs.Prelude.{◌≡◌, IfOk, IfErr};
-ghost use Rattle.window_core.specs.Windows.{IsCountedBy, IsNoDamage};
+ghost use Rattle.std.specs.Prelude.{◌≡◌, IfOk, IfErr, IfSome};
+ghost use Rattle.window_core.specs.Windows.{IsCountedBy, IsNoDamage, IsCause};
 ghost use Rattle.window_core.specs.Caller.{IsFirstAt};
 
 use crate::fault::WindowFault;
@@ -18,7 +18,9 @@ pub fn first_at<W: Window, D: Disk>(
     time: u64,
 ) -> Result<Option<Row>, WindowFault>
     ensures first { W.stands window.now (D.told disk.old) → IfOk result (IsFirstAt (W.rows window.now) key.now time) }
+    ensures kept { IfOk result (λ found. IfSome found (W.kept window.now (D.told disk.old))) }
     ensures whole { W.stands window.now (D.told disk.old) → IfErr result IsNoDamage }
+    ensures cause { IfErr result (IsCause (W.bad_rows window.now (D.told disk.old))) }
     ensures same { D.told disk.new ≡ D.told disk.old }
     ensures counted { IsCountedBy (D.fault_count disk.old) (D.fault_count disk.new) result }
 {

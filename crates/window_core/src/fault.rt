@@ -2,7 +2,7 @@
 ghost use Rattle.std.specs.Prelude.{◌≡◌};
 ghost use Rattle.window_core.specs.declared.fault.WindowFault.TheVariants.{NoMemory, Failed};
 
-use term_core::Want;
+use base_core::Want;
 
 /// Why a window gave no answer. A window in memory answers want of memory alone.
 #[derive(Clone, Copy, Debug, PartialEq, Eq)]

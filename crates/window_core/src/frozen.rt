@@ -2,17 +2,18 @@
 ghost use Rattle.std.specs.Prelude.{◌≡◌, ◌≤◌, IfOk, IfErr};
 ghost use Rattle.window_core.specs.declared.fault.WindowFault.TheVariants.{NoMemory};
 ghost use Rattle.window_core.specs.Rows.{IsLast, IsChunk};
-ghost use Rattle.window_core.specs.Windows.{IsWindow, IsFound, IsPart};
+ghost use Rattle.window_core.specs.Windows.{IsWindow, IsFound, IsPart, IsPassage};
 
 use crate::fault::WindowFault;
-use crate::held::{Held, cells_of};
+use crate::held::Held;
 use crate::rows::{Chunk, Row, Rows};
+use crate::run::copied;
 use crate::window::Window;
+use base_core::Want;
 use disk_core::Disk;
 use fed_bytes::Span;
 use std::alloc::Global;
 use std::sync::Arc;
-use term_core::Want;
 
 /// A window in memory that nobody changes. Those who share it hold the same rows.
 #[derive(Drop)]
@@ -37,12 +38,13 @@ impl FrozenWindow {
         ensures upto { IfOk result (λ made. ⟦<FrozenWindow as Window>⟧.upto made ≡ upto) }
         ensures floor { IfOk result (λ made. ⟦<FrozenWindow as Window>⟧.floor made ≡ floor) }
     {
+        let run = copied(alloc, rows.items())?;
         let held = Held {
             span,
             from,
             upto,
             floor,
-            cells: cells_of(alloc, rows)?,
+            runs: vec![in alloc; run]?,
         };
         Ok(FrozenWindow {
             held: Arc::new(alloc, held)?,
@@ -64,12 +66,16 @@ impl FrozenWindow {
 
 impl Window for FrozenWindow {
     ghost use Rattle.std.specs.Arc.{arc_value};
-    ghost use Rattle.window_core.specs.Places.{rows_of};
+    ghost use Rattle.window_core.specs.Runs.{merged};
     ghost use Rattle.window_core.specs.Laws.{held_is};
 
-    ghost rows = { λ window. rows_of (arc_value window.held).cells.entries };
+    ghost rows = { λ window. merged (arc_value window.held).runs.items };
 
     ghost stands = { λ _ _. Unit {0} };
+
+    ghost kept = { λ _ _ _. Unit {0} };
+
+    ghost bad_rows = { λ _ _ _. ⊥ };
 
     ghost span = { λ window. (arc_value window.held).span };
 
@@ -123,6 +129,7 @@ impl Window for FrozenWindow {
         requires { 1 ≤ most }
         ensures chunk { IfOk result (IsChunk (⟦<FrozenWindow as Window>⟧.rows self.now) key.now most) }
         ensures part { IfOk result (IsPart (⟦<FrozenWindow as Window>⟧.span self.now) (⟦<FrozenWindow as Window>⟧.from self.now) (⟦<FrozenWindow as Window>⟧.upto self.now) key.now) }
+        ensures passage { IfOk result (IsPassage (⟦<FrozenWindow as Window>⟧.span self.now) key.now most) }
         ensures want { IfErr result (λ fault. fault ≡ NoMemory) }
         ensures untouched { disk.new ≡ disk.old }
     {

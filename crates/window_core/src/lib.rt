@@ -4,12 +4,15 @@
 #![tactic(auto)]
 
 mod caller;
+mod compare;
 mod fault;
 mod frozen;
 mod held;
 mod live;
-mod place;
+mod packed;
 mod rows;
+mod run;
+mod runs;
 mod window;
 
 pub use caller::first_at;

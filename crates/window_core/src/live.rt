@@ -1,20 +1,19 @@
 //! A window in memory that is being filled.
-ghost use Rattle.std.specs.Prelude.{◌≡◌, ◌+◌, ◌≤◌, [], IfOk, IfErr, OnOk, OnErr};
+ghost use Rattle.std.specs.Prelude.{◌≡◌, ◌↔◌, ◌+◌, ◌≤◌, [], IsTrue, IfOk, IfErr, OnOk, OnErr};
 ghost use Rattle.window_core.specs.declared.fault.WindowFault.TheVariants.{NoMemory};
 ghost use Rattle.window_core.specs.Rows.{IsLast, IsChunk, AreChanges, AreExtended};
-ghost use Rattle.window_core.specs.Windows.{IsFound, IsPart};
+ghost use Rattle.window_core.specs.Windows.{IsFound, IsPart, IsPassage};
 
 use crate::fault::WindowFault;
 use crate::frozen::FrozenWindow;
 use crate::held::Held;
 use crate::rows::{Chunk, Row, Rows};
 use crate::window::Window;
+use base_core::Want;
 use disk_core::Disk;
 use fed_bytes::Span;
 use std::alloc::Global;
-use std::collections::BTreeMap;
 use std::sync::Arc;
-use term_core::Want;
 
 /// A window in memory that is being filled, one time after the other. Nothing is pruned in it.
 #[derive(Drop)]
@@ -37,7 +36,7 @@ impl LiveWindow {
             from,
             upto: from,
             floor: 0,
-            cells: BTreeMap::new(alloc),
+            runs: Vec::new(alloc),
         };
         Ok(LiveWindow {
             held: Arc::new(alloc, held)?,
@@ -45,7 +44,7 @@ impl LiveWindow {
     }
 
     /// Adds the rows whose keys are in the span, and moves `upto` to their time. After an `Err` the window is as it
-    /// was: the rows that went in are taken out again, which costs one pass over the window.
+    /// was.
     pub fn add(&mut self, alloc: Global, rows: &Rows, time: u64) -> Result<(), Want>
         requires next { time ≡ ⟦<LiveWindow as Window>⟧.upto self.old + 1 }
         requires changes { AreChanges time rows.now }
@@ -64,6 +63,12 @@ impl LiveWindow {
         held.add(alloc, rows, time)
     }
 
+    pub fn is_empty(&self) -> bool
+        ensures { IsTrue result ↔ (⟦<LiveWindow as Window>⟧.rows self.now ≡ []) }
+    {
+        self.held.is_empty()
+    }
+
     /// The window as it is, for good. Takes no memory.
     pub fn freeze(self) -> FrozenWindow
         ensures rows { ⟦<FrozenWindow as Window>⟧.rows result ≡ ⟦<LiveWindow as Window>⟧.rows self }
@@ -78,12 +83,16 @@ impl LiveWindow {
 
 impl Window for LiveWindow {
     ghost use Rattle.std.specs.Arc.{arc_value};
-    ghost use Rattle.window_core.specs.Places.{rows_of};
+    ghost use Rattle.window_core.specs.Runs.{merged};
     ghost use Rattle.window_core.specs.Laws.{held_is};
 
-    ghost rows = { λ window. rows_of (arc_value window.held).cells.entries };
+    ghost rows = { λ window. merged (arc_value window.held).runs.items };
 
     ghost stands = { λ _ _. Unit {0} };
+
+    ghost kept = { λ _ _ _. Unit {0} };
+
+    ghost bad_rows = { λ _ _ _. ⊥ };
 
     ghost span = { λ window. (arc_value window.held).span };
 
@@ -137,6 +146,7 @@ impl Window for LiveWindow {
         requires { 1 ≤ most }
         ensures chunk { IfOk result (IsChunk (⟦<LiveWindow as Window>⟧.rows self.now) key.now most) }
         ensures part { IfOk result (IsPart (⟦<LiveWindow as Window>⟧.span self.now) (⟦<LiveWindow as Window>⟧.from self.now) (⟦<LiveWindow as Window>⟧.upto self.now) key.now) }
+        ensures passage { IfOk result (IsPassage (⟦<LiveWindow as Window>⟧.span self.now) key.now most) }
         ensures want { IfErr result (λ fault. fault ≡ NoMemory) }
         ensures untouched { disk.new ≡ disk.old }
     {

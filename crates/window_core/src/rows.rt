@@ -1,10 +1,10 @@
 //! Rows of an index: what a key had at a time.
 ghost use Rattle.std.specs.Prelude.{◌≡◌, IfOk};
 
+use base_core::Want;
 use fed_bytes::Key;
 use std::alloc::Global;
 use std::marker::Model;
-use term_core::Want;
 
 /// An index of the store.
 #[derive(Clone, Copy, Debug, PartialEq, Eq)]

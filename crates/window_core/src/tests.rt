@@ -3,11 +3,11 @@ ghost use Rattle.window_core.specs.Rows.{AreChanges};
 
 use super::*;
 use crate::caller::first_at;
+use base_core::Want;
 use disk_core::{Disk, NoDisk};
 use fed_bytes::{Key, Span};
 use std::alloc::Global;
 use std::test::Fail;
-use term_core::Want;
 
 fn span_from(alloc: Global, left: &[u8]) -> Result<Span, Want>
     ensures { IfOk result (λ made. (made.left ≡ left.now) × (made.right ≡ None)) }
@@ -25,6 +25,17 @@ fn row(alloc: Global, key: &[u8], time: u64, value: &[u8]) -> Result<Row, Want>
         key,
         time,
         cell: Cell::Value(value),
+    })
+}
+
+fn deleted(alloc: Global, key: &[u8], time: u64) -> Result<Row, Want>
+    ensures { IfOk result (λ made. (made.key ≡ key.now) × (made.time ≡ time)) }
+{
+    let key = Key::of(alloc, key)?;
+    Ok(Row {
+        key,
+        time,
+        cell: Cell::Deleted,
     })
 }
 
@@ -47,45 +58,103 @@ fn an_index_a_cell_and_a_row_are_as_they_were_made(rt: HostRuntime) -> Result<()
     Ok(())
 }
 
+/// A window over the keys from this one on, with no rows.
+fn window_from(alloc: Global, left: &[u8]) -> Result<LiveWindow, Want> {
+    LiveWindow::make(alloc, span_from(alloc, left)?, 0)
+}
+
+/// Adds a row of the next time. One of another time isn't added.
+fn add(alloc: Global, live: &mut LiveWindow, row: Row) -> Result<(), Want> {
+    let time = row.time;
+    if live.upto().checked_add(1) != Some(time) {
+        return Ok(());
+    }
+    live.add(alloc, &change(alloc, row)?, time)
+}
+
+fn put(
+    alloc: Global,
+    live: &mut LiveWindow,
+    key: &[u8],
+    time: u64,
+    value: &[u8],
+) -> Result<(), Want> {
+    add(alloc, live, row(alloc, key, time, value)?)
+}
+
+/// Whether the last row of the key at the time is this one.
+fn last_is(
+    alloc: Global,
+    live: &LiveWindow,
+    key: &[u8],
+    t: u64,
+    wanted: Option<Row>,
+) -> Result<bool, WindowFault> {
+    let found = live.last(alloc, &mut NoDisk::new(), key, t)?;
+    Ok(found == wanted)
+}
+
+/// How many rows the first so many keys from this one on have, if the next key is this one.
+fn rows_before(
+    alloc: Global,
+    live: &LiveWindow,
+    key: &[u8],
+    most: u32,
+    next: Option<Key>,
+) -> Result<Option<usize>, WindowFault> {
+    if most == 0 {
+        return Ok(None);
+    }
+    let chunk = live.chunk(alloc, &mut NoDisk::new(), key, most)?;
+    if chunk.next != next {
+        return Ok(None);
+    }
+    Ok(Some(chunk.rows.items().len()))
+}
+
 #[test]
 fn a_live_window_has_the_rows_that_are_added(rt: HostRuntime) -> Result<(), Fail> {
     let alloc = rt.alloc();
-    let mut disk = NoDisk::new();
-    let mut live = LiveWindow::make(alloc, span_from(alloc, b"b")?, 0)?;
-    live.add(alloc, &change(alloc, row(alloc, b"b", 1, b"x")?)?, 1)?;
-    live.add(alloc, &change(alloc, row(alloc, b"c", 2, b"y")?)?, 2)?;
-    live.add(alloc, &change(alloc, row(alloc, b"b", 3, b"z")?)?, 3)?;
-    live.add(alloc, &change(alloc, row(alloc, b"a", 4, b"w")?)?, 4)?;
+    let mut live = window_from(alloc, b"b")?;
+    assert!(rt; live.is_empty());
+    put(alloc, &mut live, b"b", 1, b"x")?;
+    assert!(rt; !live.is_empty());
+    put(alloc, &mut live, b"c", 2, b"y")?;
+    put(alloc, &mut live, b"b", 3, b"z")?;
+    put(alloc, &mut live, b"a", 4, b"w")?;
     assert_eq!(rt; live.from(), 0);
     assert_eq!(rt; live.upto(), 4);
     assert_eq!(rt; live.floor(), 0);
-    assert!(rt; live.span().left == Key::of(alloc, b"b")?);
-    let old = live.last(alloc, &mut disk, b"b", 2)?;
-    assert!(rt; old == Some(row(alloc, b"b", 1, b"x")?));
-    let new = live.last(alloc, &mut disk, b"b", 4)?;
-    assert!(rt; new == Some(row(alloc, b"b", 3, b"z")?));
-    assert!(rt; live.last(alloc, &mut disk, b"b", 0)?.is_none());
-    assert!(rt; live.last(alloc, &mut disk, b"a", 4)?.is_none());
-    assert_eq!(rt; disk.faults(), 0);
+    assert!(rt; last_is(alloc, &live, b"b", 2, Some(row(alloc, b"b", 1, b"x")?))?);
+    assert!(rt; last_is(alloc, &live, b"b", 4, Some(row(alloc, b"b", 3, b"z")?))?);
+    assert!(rt; last_is(alloc, &live, b"b", 0, None)?);
+    assert!(rt; last_is(alloc, &live, b"a", 4, None)?);
     Ok(())
 }
 
 #[test]
 fn a_chunk_has_whole_keys_and_names_the_next(rt: HostRuntime) -> Result<(), Fail> {
     let alloc = rt.alloc();
-    let mut disk = NoDisk::new();
-    let mut live = LiveWindow::make(alloc, span_from(alloc, b"a")?, 0)?;
-    live.add(alloc, &change(alloc, row(alloc, b"b", 1, b"x")?)?, 1)?;
-    live.add(alloc, &change(alloc, row(alloc, b"c", 2, b"y")?)?, 2)?;
-    live.add(alloc, &change(alloc, row(alloc, b"b", 3, b"z")?)?, 3)?;
-    let first = live.chunk(alloc, &mut disk, b"a", 1)?;
-    assert_eq!(rt; first.rows.items().len(), 2);
-    assert!(rt; first.rows.items()[0] == row(alloc, b"b", 3, b"z")?);
-    assert!(rt; first.rows.items()[1] == row(alloc, b"b", 1, b"x")?);
-    assert!(rt; first.next == Some(Key::of(alloc, b"c")?));
-    let both = live.chunk(alloc, &mut disk, b"a", 2)?;
-    assert_eq!(rt; both.rows.items().len(), 3);
-    assert!(rt; both.next.is_none());
+    let mut live = window_from(alloc, b"a")?;
+    put(alloc, &mut live, b"b", 1, b"x")?;
+    put(alloc, &mut live, b"c", 2, b"y")?;
+    put(alloc, &mut live, b"b", 3, b"z")?;
+    let next = Some(Key::of(alloc, b"c")?);
+    assert_eq!(rt; rows_before(alloc, &live, b"a", 1, next)?, Some(2));
+    assert_eq!(rt; rows_before(alloc, &live, b"a", 2, None)?, Some(3));
+    Ok(())
+}
+
+#[test]
+fn the_last_row_stands_in_any_run(rt: HostRuntime) -> Result<(), Fail> {
+    let alloc = rt.alloc();
+    let mut live = window_from(alloc, b"a")?;
+    put(alloc, &mut live, b"d", 1, b"")?;
+    add(alloc, &mut live, deleted(alloc, b"b", 2)?)?;
+    assert!(rt; last_is(alloc, &live, b"b", 4, Some(deleted(alloc, b"b", 2)?))?);
+    assert!(rt; last_is(alloc, &live, b"d", 9, Some(row(alloc, b"d", 1, b"")?))?);
+    let next = Some(Key::of(alloc, b"d")?);
+    assert_eq!(rt; rows_before(alloc, &live, b"", 1, next)?, Some(1));
     Ok(())
 }
 

@@ -1,10 +1,11 @@
 //! What all windows answer, whether they are in memory or in a file.
-ghost use Rattle.std.specs.Prelude.{◌≡◌, ℕ, ◌≤◌, List, Option, IfOk, IfErr};
+ghost use Rattle.std.specs.Prelude.{◌≡◌, ℕ, ◌≤◌, List, Option, IfOk, IfErr, IfSome};
+ghost use Rattle.std.specs.List.{AllByRecursion};
 ghost use Rattle.fed_bytes.specs.declared.span.Span.{Span};
 ghost use Rattle.disk_core.specs.Moments.{Told};
 ghost use Rattle.window_core.specs.declared.rows.Row.{Row};
 ghost use Rattle.window_core.specs.Rows.{IsLast, IsChunk};
-ghost use Rattle.window_core.specs.Windows.{IsWindow, IsCountedBy, IsNoDamage, IsFound, IsPart};
+ghost use Rattle.window_core.specs.Windows.{IsWindow, IsCountedBy, IsNoDamage, IsCause, IsFound, IsPart, IsPassage};
 
 use crate::fault::WindowFault;
 use crate::rows::{Chunk, Row};
@@ -18,6 +19,14 @@ pub trait Window {
 
     /// How a device must stand for the rows to stand on it. A window in memory asks nothing of them.
     ghost stands: { Self → Option Told → Type 0 };
+
+    /// The block in which the row stands is, as the device tells it, the one that the window keeps. A window in memory
+    /// has no blocks, and says nothing of its rows.
+    ghost kept: { Self → Option Told → Row → Type 0 };
+
+    /// The bytes of this block have, as the device tells them, the digest that the window keeps for it, and are no rows.
+    /// A window in memory has no such block.
+    ghost bad_rows: { Self → Option Told → ℕ → Type 0 };
 
     ghost span: { Self → Span };
 
@@ -50,11 +59,14 @@ pub trait Window {
     ) -> Result<Option<Row>, WindowFault>
         ensures last { stands self.now (D.told disk.old) → IfOk result (IsLast (rows self.now) key.now t) }
         ensures found { IfOk result (IsFound (span self.now) (from self.now) (upto self.now) key.now t) }
+        ensures kept { IfOk result (λ found. IfSome found (kept self.now (D.told disk.old))) }
         ensures whole { stands self.now (D.told disk.old) → IfErr result IsNoDamage }
+        ensures cause { IfErr result (IsCause (bad_rows self.now (D.told disk.old))) }
         ensures same { D.told disk.new ≡ D.told disk.old }
         ensures counted { IsCountedBy (D.fault_count disk.old) (D.fault_count disk.new) result };
 
-    /// All rows of the first `most` keys from a key on, and the key behind them.
+    /// All rows of the first `most` keys from a key on, and the key behind them. A window that doesn't stand on its device
+    /// may pass keys that leave no row.
     fn chunk<D: Disk>(
         &self,
         alloc: Global,
@@ -65,7 +77,10 @@ pub trait Window {
         requires { 1 ≤ most }
         ensures chunk { stands self.now (D.told disk.old) → IfOk result (IsChunk (rows self.now) key.now most) }
         ensures part { IfOk result (IsPart (span self.now) (from self.now) (upto self.now) key.now) }
+        ensures passage { IfOk result (IsPassage (span self.now) key.now most) }
+        ensures kept { IfOk result (λ chunk. AllByRecursion (kept self.now (D.told disk.old)) chunk.rows) }
         ensures whole { stands self.now (D.told disk.old) → IfErr result IsNoDamage }
+        ensures cause { IfErr result (IsCause (bad_rows self.now (D.told disk.old))) }
         ensures same { D.told disk.new ≡ D.told disk.old }
         ensures counted { IsCountedBy (D.fault_count disk.old) (D.fault_count disk.new) result };
 
