@@ -1,115 +1,125 @@
 -- The rows of an entry are those of the history's last change.
-use Rattle.std.proofs.Common.{◌≡◌, ℕ, suc, ◌<◌, ◌^◌, List, [], ◌∷◌, map, length, get_or, Option, Some, None, ◌⊎◌, inl, inr, ◌↔◌, refl, sym, ◌∙◌, ap, subst, arith}
-use Rattle.std.specs.List.{slice_get, filter_map, cons_option}
+use Rattle.std.proofs.Common.{◌≡◌, ℕ, suc, ◌+◌, ◌<◌, ◌^◌, List, [], ◌∷◌, ◌++◌, map, length, get_or, Option, Some, None, ◌⊎◌, inl, inr, ◌↔◌, refl, sym, ◌∙◌, ap, subst, arith, length-append}
+use Rattle.std.specs.declared.cmp.Ordering.TheVariants.{Less}
+use Rattle.std.specs.Ordering.{nat_cmp, is_lt}
+use Rattle.std.specs.Cmp.{nat_cmp_is}
+use Rattle.std.specs.Cmp.Lexicographic.{slice_cmp}
+use Rattle.std.specs.List.{slice_get, filter_map, cons_option, AllByRecursion}
 use Rattle.std.proofs.lemmas.Option.{none-some, same_Some}
 use Rattle.term_core.specs.declared.term.Term.{Term}
 use Rattle.term_core.specs.declared.statement.Statement.{Statement}
-use Rattle.term_core.specs.Lists.{Has, AreDistinct}
+use Rattle.base_core.specs.Lists.{Has, AreDistinct}
 use Rattle.term_core.specs.Term.{IsTerm}
 use Rattle.term_core.specs.Spelling.{spelling}
-use Rattle.fed_bytes.specs.Numbers.{number_bytes}
+use Rattle.base_core.specs.Numbers.{number_bytes}
 use Rattle.triple_keys.specs.declared.key.Ids.{Ids}
 use Rattle.triple_keys.specs.declared.order.Order.{Order}
-use Rattle.triple_keys.proofs.Spelling.{number_told}
+use Rattle.triple_keys.proofs.Ordering.{number_bytes-cmp}
 use Rattle.window_core.specs.declared.rows.Row.{Row}
+use Rattle.window_core.specs.Rows.{ComesBefore, StandInOrder}
 use Rattle.change_model.specs.declared.history.Committed.{Committed}
+use Rattle.change_model.specs.declared.numbering.NewTerm.{NewTerm}
 use Rattle.change_model.specs.declared.vocabulary.Places.{Places}
 use Rattle.change_model.specs.History.{History, bound_term, bound_at}
 use Rattle.change_model.specs.Lexicon.{lexicon_at, HaveIds}
 use Rattle.change_model.specs.IndexRows.{AppearsAt, StandsIn, CellAt, cell_of, IsTermRow, IsIdRow, IsStatementRow}
 use Rattle.change_model.specs.Entries.{IsPlaced, ArePlaced}
-use Rattle.change_model.specs.EntryRows.{AgreeByKey, term_row, id_row, statement_row}
-use Rattle.change_model.specs.Numbering.{HasIdIn, IsIdIn, AreIdsAt, IsNumbering, three_ids, ids_at}
-use Rattle.change_model.proofs.Members.{one_place, each_of, Has-map, Has-from_map}
+use Rattle.change_model.specs.EntryRows.{HaveOwnKeys, term_row, id_row, statement_row}
+use Rattle.change_model.specs.Numbering.{HasIdIn, IsIdIn, AreIdsAt, new_terms, IsNumbering, three_ids, ids_at}
+use Rattle.change_model.proofs.Members.{one_place, Has-map, Has-from_map}
 use Rattle.term_core.proofs.Spelling.{spelling_same}
-use Rattle.change_model.proofs.EntryNumbering.{stands}
-use Rattle.change_model.proofs.EntryGiven.{place_below, zip_got}
+use Rattle.change_model.proofs.EntryNumbering.{brought_told}
+use Rattle.change_model.proofs.EntryGiven.{zip_got}
 
--- a term has one id, and an id one term
+-- a term has one id
 one_id : (known : List Term) (term : Term) (id other : ℕ) → AreDistinct known → HasIdIn known term id → HasIdIn known term other → id ≡ other
 one_id known term id other apart has also = has.2 ∙ ap suc (one_place known has.0 also.0 term apart has.1 also.1) ∙ sym also.2
 
-one_term : (known : List Term) (term other : Term) (id : ℕ) → HasIdIn known term id → HasIdIn known other id → term ≡ other
-one_term known term other id has also =
-    let at : has.0 ≡ also.0 = let e = has.2 in let f = also.2 in omega arith in
-    same_Some term other (sym has.1 ∙ ap (slice_get known) at ∙ also.1)
+-- ---- keys
 
-id_low : (known : List Term) (term : Term) (id : ℕ) → length known < 2 ^ 64 → HasIdIn known term id → id < 2 ^ 64
-id_low known term id small has = let below = place_below known has.0 term has.1 in let e = has.2 in omega arith
+-- terms have keys of their own where their spellings tell them apart
+no_key : (number time : ℕ) (terms : List Term) (term : Term) → IsTerm term → AllByRecursion IsTerm terms → (Has terms term → ⊥)
+    → Has (map (λ (r : Row). r.key) (map (term_row time) (new_terms number terms))) (spelling term) → ⊥
+no_key number time [] term rule rules apart h = h
+no_key number time (first ∷ terms) term rule rules apart (inl same) = apart (inl (spelling_same first term rules.0 rule same))
+no_key number time (first ∷ terms) term rule rules apart (inr more) = no_key (suc number) time terms term rule rules.1 (λ h. apart (inr h)) more
 
-same_entry : (one other : List ℕ × ℕ) → one.0 ≡ other.0 → one.1 ≡ other.1 → one ≡ other
-same_entry one other e f = λ i. (e i, f i)
+new_keys : (number time : ℕ) (terms : List Term) → AreDistinct terms → AllByRecursion IsTerm terms → HaveOwnKeys (map (term_row time) (new_terms number terms))
+new_keys number time [] apart rules = tt
+new_keys number time (term ∷ terms) apart rules = (no_key (suc number) time terms term rules.0 rules.1 apart.0, new_keys (suc number) time terms apart.1 rules.1)
 
--- entries of one key are one
-keys_agree : (base known : List Term) (number : ℕ) (entries : List (List ℕ × ℕ)) → AreDistinct known → IsNumbering base known number entries
-    → (one other : List ℕ × ℕ) → Has entries one → Has entries other → one.0 ≡ other.0 → one ≡ other
-keys_agree base known number entries apart is one other h k same =
-    let a = (is.brought one.0 one.1).0 h in
-    let b = (is.brought other.0 other.1).0 k in
-    let rule : (t : Term) (id : ℕ) → HasIdIn known t id → IsTerm t = λ t id has. each_of IsTerm known t is.rules (stands known t id has) in
-    let terms : a.term ≡ b.term = spelling_same a.term b.term (rule a.term one.1 a.has) (rule b.term other.1 b.has) (sym a.spelled ∙ same ∙ b.spelled) in
-    same_entry one other same (one_id known b.term one.1 other.1 apart (subst (λ (t : Term). HasIdIn known t one.1) terms a.has) b.has)
+distinct_behind : (xs ys : List Term) → AreDistinct (xs ++ ys) → AreDistinct ys
+distinct_behind [] ys apart = apart
+distinct_behind (x ∷ xs) ys apart = distinct_behind xs ys apart.1
 
--- and entries of one id are
-ids_agree : (base known : List Term) (number : ℕ) (entries : List (List ℕ × ℕ)) → length known < 2 ^ 64 → IsNumbering base known number entries
-    → (one other : List ℕ × ℕ) → Has entries one → Has entries other → number_bytes one.1 ≡ number_bytes other.1 → one ≡ other
-ids_agree base known number entries small is one other h k same =
-    let a = (is.brought one.0 one.1).0 h in
-    let b = (is.brought other.0 other.1).0 k in
-    let ids : one.1 ≡ other.1 = number_told one.1 other.1 (id_low known a.term one.1 small a.has) (id_low known b.term other.1 small b.has) same in
-    let terms : a.term ≡ b.term = one_term known a.term b.term other.1 (subst (HasIdIn known a.term) ids a.has) b.has in
-    same_entry one other (a.spelled ∙ ap spelling terms ∙ sym b.spelled) ids
+rules_behind : (xs ys : List Term) → AllByRecursion IsTerm (xs ++ ys) → AllByRecursion IsTerm ys
+rules_behind [] ys all = all
+rules_behind (x ∷ xs) ys all = rules_behind xs ys all.1
 
-agree_by : (f : List ℕ × ℕ → Row) (entries : List (List ℕ × ℕ))
-    → ((one other : List ℕ × ℕ) → Has entries one → Has entries other → (f one).key ≡ (f other).key → one ≡ other) → AgreeByKey (map f entries)
-agree_by f entries agree one other h k same =
-    let first = Has-from_map f entries one h in
-    let second = Has-from_map f entries other k in
-    sym first.2 ∙ ap f (agree first.0 second.0 first.1 second.1 (ap (λ (r : Row). r.key) first.2 ∙ same ∙ sym (ap (λ (r : Row). r.key) second.2))) ∙ second.2
+pub term_rows_own : (base known : List Term) (number time : ℕ) (brought : List NewTerm) → AreDistinct known → IsNumbering base known number brought
+    → HaveOwnKeys (map (term_row time) brought)
+term_rows_own base known number time brought apart is =
+    let new = is.grown.0 in
+    subst (λ (es : List NewTerm). HaveOwnKeys (map (term_row time) es)) (sym is.entries)
+    (new_keys (length base) time new (distinct_behind base new (subst AreDistinct is.grown.1 apart)) (rules_behind base new (subst (AllByRecursion IsTerm) is.grown.1 is.rules)))
 
-pub term_rows_agree : (base known : List Term) (number time : ℕ) (entries : List (List ℕ × ℕ)) → AreDistinct known → IsNumbering base known number entries
-    → AgreeByKey (map (term_row time) entries)
-term_rows_agree base known number time entries apart is = agree_by (term_row time) entries (keys_agree base known number entries apart is)
+-- the ids of brought terms ascend, so their rows stand in order
+above : (time low number : ℕ) (terms : List Term) (key : List ℕ) → low < suc number → number + length terms < 2 ^ 64
+    → AllByRecursion (ComesBefore (id_row time (record { key = key; id = low }))) (map (id_row time) (new_terms number terms))
+above time low number [] key under small = tt
+above time low number (term ∷ terms) key under small =
+    let less : nat_cmp low (suc number) ≡ Less = sym (nat_cmp_is low (suc number) Less under) in
+    let before : slice_cmp nat_cmp (number_bytes low) (number_bytes (suc number)) ≡ Less = number_bytes-cmp low (suc number) (omega arith) (omega arith) ∙ less in
+    (inl (ap is_lt before), above time low (suc number) terms key (omega arith) (omega arith))
 
-pub id_rows_agree : (base known : List Term) (number time : ℕ) (entries : List (List ℕ × ℕ)) → length known < 2 ^ 64 → IsNumbering base known number entries
-    → AgreeByKey (map (id_row time) entries)
-id_rows_agree base known number time entries small is = agree_by (id_row time) entries (ids_agree base known number entries small is)
+new_order : (time number : ℕ) (terms : List Term) → number + length terms < 2 ^ 64 → StandInOrder (map (id_row time) (new_terms number terms))
+new_order time number [] small = tt
+new_order time number (term ∷ terms) small = (above time (suc number) (suc number) terms (spelling term) (omega arith) (omega arith), new_order time (suc number) terms (omega arith))
+
+pub id_rows_order : (base known : List Term) (number time : ℕ) (brought : List NewTerm) → length known < 2 ^ 64 → IsNumbering base known number brought
+    → StandInOrder (map (id_row time) brought)
+id_rows_order base known number time brought small is =
+    let low : length base + length is.grown.0 < 2 ^ 64 = omega (arith, ap length is.grown.1, length-append base is.grown.0) in
+    subst (λ (es : List NewTerm). StandInOrder (map (id_row time) es)) (sym is.entries) (new_order time (length base) is.grown.0 low)
+
+-- ---- the rows of terms
 
 -- a row of a term that first appears after the first k changes
-record IsMadeRow (f : ℕ → List ℕ × ℕ → Row) (history : History) (row : Row) : Type 0 where
+record IsMadeRow (f : ℕ → NewTerm → Row) (history : History) (row : Row) : Type 0 where
   k : ℕ
   term : Term
   id : ℕ
   appears : AppearsAt history k term id
-  row_is : row ≡ f (suc k) (spelling term, id)
+  row_is : row ≡ f (suc k) (record { key = spelling term; id = id })
 
 -- what the entries of a numbering say
-module _ (f : ℕ → List ℕ × ℕ → Row) (timed : (t : ℕ) (e : List ℕ × ℕ) → (f t e).time ≡ t) (longer : History) (n number : ℕ) (entries : List (List ℕ × ℕ))
+module _ (f : ℕ → NewTerm → Row) (timed : (t : ℕ) (e : NewTerm) → (f t e).time ≡ t) (longer : History) (n number : ℕ) (entries : List NewTerm)
     (is : IsNumbering (lexicon_at longer n) (lexicon_at longer (suc n)) number entries) where
   made_to : (row : Row) → Has (map (f (suc n)) entries) row → IsMadeRow f longer row × (row.time ≡ suc n)
   made_to row h =
       let from = Has-from_map (f (suc n)) entries row h in
-      let b = (is.brought from.0.0 from.0.1).0 from.1 in (
+      let b = (brought_told _ _ number entries is from.0).0 from.1 in (
         record {
           k = n;
           term = b.term;
-          id = from.0.1;
+          id = from.0.id;
           appears = record { has = b.has; new = b.new };
-          row_is = sym from.2 ∙ ap (λ key. f (suc n) (key, from.0.1)) b.spelled;
+          row_is = sym from.2 ∙ (λ i. f (suc n) (record { key = b.spelled i; id = from.0.id }));
         },
         ap (λ (r : Row). r.time) (sym from.2) ∙ timed (suc n) from.0,
       )
 
   made_from : (row : Row) → IsMadeRow f longer row → row.time ≡ suc n → Has (map (f (suc n)) entries) row
   made_from row made time =
-      let times : suc made.k ≡ suc n = sym (timed (suc made.k) (spelling made.term, made.id)) ∙ ap (λ (r : Row). r.time) (sym made.row_is) ∙ time in
+      let new : NewTerm = record { key = spelling made.term; id = made.id } in
+      let times : suc made.k ≡ suc n = sym (timed (suc made.k) new) ∙ ap (λ (r : Row). r.time) (sym made.row_is) ∙ time in
       let at : made.k ≡ n = omega arith in
       let appears : AppearsAt longer n made.term made.id = subst (λ k. AppearsAt longer k made.term made.id) at made.appears in
-      let entry : Has entries (spelling made.term, made.id) =
-      (is.brought (spelling made.term) made.id).1 (record { term = made.term; has = appears.has; new = appears.new; spelled = refl }) in
-      subst (Has (map (f (suc n)) entries)) (ap (λ t. f t (spelling made.term, made.id)) (sym times) ∙ sym made.row_is) (Has-map (f (suc n)) entries (spelling made.term, made.id) entry)
+      let entry : Has entries new =
+      (brought_told _ _ number entries is new).1 (record { term = made.term; has = appears.has; new = appears.new; spelled = refl }) in
+      subst (Has (map (f (suc n)) entries)) (ap (λ t. f t new) (sym times) ∙ sym made.row_is) (Has-map (f (suc n)) entries new entry)
 
-pub term_rows_exactly : (longer : History) (n number : ℕ) (entries : List (List ℕ × ℕ)) → IsNumbering (lexicon_at longer n) (lexicon_at longer (suc n)) number entries
+pub term_rows_exactly : (longer : History) (n number : ℕ) (entries : List NewTerm) → IsNumbering (lexicon_at longer n) (lexicon_at longer (suc n)) number entries
     → (row : Row) → (Has (map (term_row (suc n)) entries) row ↔ (IsTermRow longer row × (row.time ≡ suc n)))
 term_rows_exactly longer n number entries is row = (
   λ h. let to = made_to term_row (λ t e. refl) longer n number entries is row h in
@@ -118,7 +128,7 @@ term_rows_exactly longer n number entries is row = (
       (record { k = w.0.k; term = w.0.term; id = w.0.id; appears = w.0.appears; row_is = w.0.row_is }) w.1,
 )
 
-pub id_rows_exactly : (longer : History) (n number : ℕ) (entries : List (List ℕ × ℕ)) → IsNumbering (lexicon_at longer n) (lexicon_at longer (suc n)) number entries
+pub id_rows_exactly : (longer : History) (n number : ℕ) (entries : List NewTerm) → IsNumbering (lexicon_at longer n) (lexicon_at longer (suc n)) number entries
     → (row : Row) → (Has (map (id_row (suc n)) entries) row ↔ (IsIdRow longer row × (row.time ≡ suc n)))
 id_rows_exactly longer n number entries is row = (
   λ h. let to = made_to id_row (λ t e. refl) longer n number entries is row h in
@@ -127,7 +137,7 @@ id_rows_exactly longer n number entries is row = (
       (record { k = w.0.k; term = w.0.term; id = w.0.id; appears = w.0.appears; row_is = w.0.row_is }) w.1,
 )
 
--- statements
+-- ---- statements
 
 three_told : (a b c : Option ℕ) (ids : Ids) → three_ids a b c ≡ Some ids → (a ≡ Some ids.subject) × (b ≡ Some ids.predicate) × (c ≡ Some ids.object)
 three_told None b c ids e = absurd (none-some ids e)

@@ -1,19 +1,24 @@
 -- The ids of the terms of a change, one term after the other.
-use Rattle.std.proofs.Common.{◌≡◌, ℕ, zero, suc, ◌<◌, ◌≤◌, ◌+◌, List, [], ◌∷◌, ◌++◌, map, length, take, get_or, Option, Some, None, refl, sym, ◌∙◌, ap, subst, arith}
+use Rattle.std.proofs.Common.{◌≡◌, ℕ, zero, suc, ◌<◌, ◌≤◌, ◌+◌, List, [], ◌∷◌, ◌++◌, map, length, take, drop, get_or, Option, Some, None, inl, inr, refl, sym, ◌∙◌, ap, subst, arith}
 use Rattle.std.specs.List.{slice_get, AllZip}
 use Rattle.std.proofs.lemmas.Option.{none-some, same_Some}
-use Rattle.std.proofs.lemmas.List.{take_more, take_all, append-nil, length-take-le, map-append}
+use Rattle.std.proofs.lemmas.List.{take_more, take_all, append-nil, length-take-le, map-append, take-append-drop}
 use Rattle.std.proofs.lemmas.List.Elements.{All-from_recursion}
 use Rattle.std.proofs.lemmas.Slice.Zip.{all_zipped_more}
 use Rattle.term_core.specs.declared.term.Term.{Term}
 use Rattle.term_core.specs.declared.term.Term.TheVariants.{Iri, Literal, Tagged, Blank}
+use Rattle.term_core.specs.Spelling.{spelling}
 use Rattle.term_core.specs.Term.{IsTerm}
-use Rattle.term_core.specs.Lists.{Has}
-use Rattle.change_model.specs.History.{bound_term}
-use Rattle.change_model.specs.Lexicon.{with_term, with_terms, brought}
+use Rattle.base_core.specs.Lists.{Has, AreDistinct}
 use Rattle.change_model.specs.declared.history.Kind.{Kind}
 use Rattle.change_model.specs.declared.history.Kind.TheVariants.{Add, Remove}
-use Rattle.change_model.specs.Numbering.{HasIdIn, IsIdIn, IsBase, BindWell, AreIdsIn, AreIdsAt, IsNumbering, known_id, known_ids}
+use Rattle.change_model.specs.declared.numbering.NewTerm.{NewTerm}
+use Rattle.change_model.specs.declared.vocabulary.Vocabulary.{Vocabulary}
+use Rattle.change_model.specs.History.{bound_term}
+use Rattle.change_model.specs.Lexicon.{with_term, with_terms, brought}
+use Rattle.change_model.specs.Numbering.{HasIdIn, IsIdIn, IsBase, BindWell, AreIdsIn, AreIdsAt, AreSpelled, IsNumbering, IsUnlabelled, IsNext, IsGiving, IsGiven, known_id, known_ids}
+use Rattle.change_model.proofs.Lexicons.{AreWith-all}
+use Rattle.change_model.proofs.Members.{Has-append, Has-from_map}
 use Rattle.change_model.proofs.VocabularyTerms.{with_terms-append}
 use Rattle.change_model.proofs.EntryNumbering.{stands, HasIdIn-grown}
 
@@ -74,16 +79,8 @@ known_more terms ids i term old new id one below is so_far at answer pushed =
     pushed ∙ ap (λ ks. ks ++ (one ∷ [])) so_far ∙ ap (λ o. known_ids (take i terms) ids ++ (o ∷ [])) last ∙ sym (known_push (take i terms) term ids) ∙ ap (λ ts. known_ids ts ids) (sym more)
 
 -- no term is brought yet
-pub numbering_base : (base : List Term) (number time : ℕ) (entries : List (List ℕ × ℕ)) → IsBase base number time → entries ≡ [] → IsNumbering base base number entries
-numbering_base base number time entries is none = record {
-  grown = ([], sym (append-nil base));
-  rules = is.rules;
-  count = is.count;
-  brought = λ key id. (
-    λ h. absurd (subst (λ (es : List (List ℕ × ℕ)). Has es (key, id)) none h),
-    λ b. absurd (let below = place_below base b.has.0 b.term b.has.1 in let at = b.has.2 in let new = b.new in omega arith),
-  );
-}
+pub numbering_base : (base : List Term) (number time : ℕ) (brought : List NewTerm) → IsBase base number time → brought ≡ [] → IsNumbering base base number brought
+numbering_base base number time brought is none = record { grown = ([], sym (append-nil base)); rules = is.rules; count = is.count; entries = none }
 
 -- an id that was given
 abbrev IsGivenIn : List Term → Term → Option ℕ → Type 0
@@ -102,15 +99,18 @@ abbrev pub AreGivenAt : ℕ → List Term → List Term → List (Option ℕ) �
 AreGivenAt time known terms ids = AllZip (λ term id. IsGivenIn known (bound_term time term) id) terms ids
 
 -- the first so many terms have their ids
-pub record HaveSoFar (base : List Term) (time : ℕ) (terms : List Term) (i : ℕ) (given : List (Option ℕ)) (number : ℕ) (entries : List (List ℕ × ℕ)) : Type 0 where
+pub record HaveSoFar (base : List Term) (time : ℕ) (terms : List Term) (i : ℕ) (given : List (Option ℕ)) (number : ℕ) (brought : List NewTerm) (nodes : List ℕ → Option ℕ) : Type 0 where
   pub ids : AreGivenAt time (with_terms base (map (bound_term time) (take i terms))) (take i terms) given
-  pub numbering : IsNumbering base (with_terms base (map (bound_term time) (take i terms))) number entries
+  pub giving : IsGiving base (with_terms base (map (bound_term time) (take i terms))) time number brought nodes
 
-pub have_none : (base : List Term) (time : ℕ) (terms : List Term) (given : List (Option ℕ)) (number : ℕ) (entries : List (List ℕ × ℕ))
-    → IsBase base number time → given ≡ [] → entries ≡ [] → HaveSoFar base time terms 0 given number entries
-have_none base time terms given number entries is none empty = record {
+pub have_none : (base : List Term) (time : ℕ) (terms : List Term) (given : List (Option ℕ)) (number : ℕ) (brought : List NewTerm) (nodes : List ℕ → Option ℕ)
+    → IsBase base number time → given ≡ [] → brought ≡ [] → ((label : List ℕ) → nodes label ≡ None) → HaveSoFar base time terms 0 given number brought nodes
+have_none base time terms given number brought nodes is none empty no_nodes = record {
   ids = subst (AreGivenAt time base []) (sym none) tt;
-  numbering = numbering_base base number time entries is empty;
+  giving = record {
+    numbering = numbering_base base number time brought is empty;
+    nodes_are = λ label. subst (IsIdIn base (Blank time label)) (sym (no_nodes label)) (λ id has. is.earlier label (stands base (Blank time label) id has));
+  };
 }
 
 -- what is known of the next term
@@ -124,13 +124,63 @@ next_id time base terms ids i term id are below is at =
     let here = zip_at (λ t o. IsIdIn base (bound_term time t) o) terms ids i term None are below in
     subst (IsIdIn base (bound_term time term)) (sym at) (subst (λ (t : Term). IsIdIn base (bound_term time t) (get_or ids i None)) (sym is) here)
 
-pub have_more : (base : List Term) (time : ℕ) (terms : List Term) (i : ℕ) (term : Term) (given all : List (Option ℕ)) (id number : ℕ) (entries : List (List ℕ × ℕ))
+-- a distinct list has an element nowhere in front of it
+not_in_front : {A : Type 0} → (xs : List A) (y : A) → AreDistinct (xs ++ (y ∷ [])) → Has xs y → ⊥
+not_in_front [] y apart h = h
+not_in_front (x ∷ xs) y apart (inl same) = apart.0 ((Has-append xs (y ∷ []) x).1 (inr (inl (sym same))))
+not_in_front (x ∷ xs) y apart (inr more) = not_in_front xs y apart.1 more
+
+AreDistinct-front : {A : Type 0} → (xs ys : List A) → AreDistinct (xs ++ ys) → AreDistinct xs
+AreDistinct-front [] ys apart = tt
+AreDistinct-front (x ∷ xs) ys apart = (λ h. apart.0 ((Has-append xs ys x).1 (inl h)), AreDistinct-front xs ys apart.1)
+
+-- a term without a label is bound to no other term
+only_itself : (time : ℕ) (other term : Term) → IsUnlabelled term → bound_term time other ≡ term → other ≡ term
+only_itself time (Iri iri) term plain same = same
+only_itself time (Literal form datatype) term plain same = same
+only_itself time (Tagged form tag) term plain same = same
+only_itself time (Blank at label) term plain same = absurd (subst IsUnlabelled (sym same) plain)
+
+next_once : (base : List Term) (time : ℕ) (terms : List Term) (i : ℕ) (term : Term) → AreDistinct terms → i < length terms → term ≡ get_or terms i term
+    → IsUnlabelled term → Has (with_terms base (map (bound_term time) (take i terms))) term → Has base term
+next_once base time terms i term apart below is plain h =
+    elim ((AreWith-all base (map (bound_term time) (take i terms))).only term h) [
+      | inl before ↦ before
+      | inr here ↦
+          let from = Has-from_map (bound_term time) (take i terms) term here in
+          let more : take (i + 1) terms ≡ take i terms ++ (term ∷ []) = take_more terms i term below ∙ ap (λ t. take i terms ++ (t ∷ [])) (sym is) in
+          let front : AreDistinct (take i terms ++ (term ∷ [])) =
+          subst AreDistinct more (AreDistinct-front (take (i + 1) terms) (drop (i + 1) terms) (subst AreDistinct (sym (take-append-drop (i + 1) terms)) apart)) in
+          absurd (not_in_front (take i terms) term front (subst (Has (take i terms)) (only_itself time from.0 term plain from.2) from.1))
+    ]
+
+-- what is known of the next term
+pub next_term : (time : ℕ) (base : List Term) (vocabulary : Vocabulary) (ids : List (Option ℕ)) (i : ℕ) (term : Term) (id : Option ℕ) → AreSpelled vocabulary → BindWell time vocabulary.terms
+    → AreIdsAt time base vocabulary.terms ids → i < length vocabulary.terms → term ≡ get_or vocabulary.terms i term → id ≡ get_or ids i None
+    → IsNext base (with_terms base (map (bound_term time) (take i vocabulary.terms))) time term id
+next_term time base vocabulary ids i term id spelled bind are below is at = record {
+  rules = next_rules time vocabulary.terms i term bind below is;
+  id_is = next_id time base vocabulary.terms ids i term id are below is at;
+  once = next_once base time vocabulary.terms i term spelled.apart below is;
+}
+
+got_mapped : {A B : Type 0} (f : A → B) (xs : List A) (k : ℕ) (d : A) → k < length xs → slice_get (map f xs) k ≡ Some (f (get_or xs k d))
+got_mapped f [] k d below = absurd (omega arith)
+got_mapped f (x ∷ xs) zero d below = refl
+got_mapped f (x ∷ xs) (suc k) d below = got_mapped f xs k d (omega arith)
+
+-- the spelling that stands at its place
+pub next_spelling : (vocabulary : Vocabulary) (i : ℕ) (term : Term) → AreSpelled vocabulary → i < length vocabulary.terms → term ≡ get_or vocabulary.terms i term
+    → slice_get vocabulary.spellings i ≡ Some (spelling term)
+next_spelling vocabulary i term spelled below is =
+    ap (λ ss. slice_get ss i) spelled.spellings ∙ got_mapped spelling vocabulary.terms i term below ∙ ap (λ t. Some (spelling t)) (sym is)
+
+pub have_more : (base : List Term) (time : ℕ) (terms : List Term) (i : ℕ) (term : Term) (given all : List (Option ℕ)) (id number : ℕ) (brought : List NewTerm) (nodes : List ℕ → Option ℕ)
     → i < length terms → term ≡ get_or terms i term
     → AreGivenAt time (with_terms base (map (bound_term time) (take i terms))) (take i terms) given
-    → HasIdIn (with_term (with_terms base (map (bound_term time) (take i terms))) (bound_term time term)) (bound_term time term) id
-    → IsNumbering base (with_term (with_terms base (map (bound_term time) (take i terms))) (bound_term time term)) number entries
-    → all ≡ given ++ (Some id ∷ []) → HaveSoFar base time terms (i + 1) all number entries
-have_more base time terms i term given all id number entries below is so_far has numbering pushed =
+    → IsGiven base (with_terms base (map (bound_term time) (take i terms))) time term id number brought nodes
+    → all ≡ given ++ (Some id ∷ []) → HaveSoFar base time terms (i + 1) all number brought nodes
+have_more base time terms i term given all id number brought nodes below is so_far step pushed =
     let f = bound_term time in
     let known = with_terms base (map f (take i terms)) in
     let more : take (i + 1) terms ≡ take i terms ++ (term ∷ []) = take_more terms i term below ∙ ap (λ t. take i terms ++ (t ∷ [])) (sym is) in
@@ -138,46 +188,44 @@ have_more base time terms i term given all id number entries below is so_far has
     ap (λ ts. with_terms base (map f ts)) more ∙ ap (with_terms base) (map-append f (take i terms) (term ∷ [])) ∙ with_terms-append base (map f (take i terms)) (f term ∷ []) in
     let R = λ (t : Term) (o : Option ℕ). IsGivenIn (with_term known (f term)) (f t) o in
     let old : AllZip R (take i terms) given = zip_weaker (λ t o. IsGivenIn known (f t) o) R (λ t o. given_grown known (f term) (f t) o) (take i terms) given so_far in
-    let new : AllZip R (take i terms ++ (term ∷ [])) (given ++ (Some id ∷ [])) = all_zipped_more R (take i terms) given term (Some id) old has in
+    let new : AllZip R (take i terms ++ (term ∷ [])) (given ++ (Some id ∷ [])) = all_zipped_more R (take i terms) given term (Some id) old step.given in
     record {
       ids = subst (λ (ks : List Term). AreGivenAt time ks (take (i + 1) terms) all) (sym grown)
           (subst (AllZip R (take (i + 1) terms)) (sym pushed) (subst (λ (ts : List Term). AllZip R ts (given ++ (Some id ∷ []))) (sym more) new));
-      numbering = subst (λ (ks : List Term). IsNumbering base ks number entries) (sym grown) numbering;
+      giving = subst (λ (ks : List Term). IsGiving base ks time number brought nodes) (sym grown) step.giving;
     }
 
 -- all terms have their ids
-pub have_all : (base : List Term) (time : ℕ) (terms : List Term) (i : ℕ) (given : List (Option ℕ)) (number : ℕ) (entries : List (List ℕ × ℕ)) → length terms ≤ i
-    → HaveSoFar base time terms i given number entries
-    → AreIdsAt time (with_terms base (map (bound_term time) terms)) terms given × IsNumbering base (with_terms base (map (bound_term time) terms)) number entries
-have_all base time terms i given number entries end have =
+pub have_all : (base : List Term) (time : ℕ) (terms : List Term) (i : ℕ) (given : List (Option ℕ)) (number : ℕ) (brought : List NewTerm) (nodes : List ℕ → Option ℕ) → length terms ≤ i
+    → HaveSoFar base time terms i given number brought nodes
+    → AreIdsAt time (with_terms base (map (bound_term time) terms)) terms given × IsNumbering base (with_terms base (map (bound_term time) terms)) number brought
+have_all base time terms i given number brought nodes end have =
     let whole : take i terms ≡ terms = take_all i terms end in
     let ids = subst (λ (ts : List Term). AreGivenAt time (with_terms base (map (bound_term time) ts)) ts given) whole have.ids in (
       zip_weaker _ _ (λ t o. given_is _ (bound_term time t) o) terms given ids,
-      subst (λ (ts : List Term). IsNumbering base (with_terms base (map (bound_term time) ts)) number entries) whole have.numbering,
+      subst (λ (ts : List Term). IsNumbering base (with_terms base (map (bound_term time) ts)) number brought) whole have.giving.numbering,
     )
 
 -- an Add gives ids by the ones that are known already
-pub add_tells : (C : List Term → List Term → List Term → Type 0) (kind : Kind) (count time : ℕ) (terms vocabulary : List Term) (ids raw given : List (Option ℕ))
-    → kind ≡ Add → vocabulary ≡ terms → raw ≡ ids → given ≡ known_ids vocabulary raw
-    → ((base : List Term) → IsBase base count time → BindWell time vocabulary → AreIdsAt time base vocabulary given → C base (with_terms base (map (bound_term time) vocabulary)) vocabulary)
-    → (base : List Term) → IsBase base count time → BindWell time terms → AreIdsIn base terms ids → C base (with_terms base (brought kind (map (bound_term time) terms))) terms
-add_tells C kind count time terms vocabulary ids raw given add same also is tells base base_is bind are =
+pub add_tells : (C : List Term → List Term → Type 0) (kind : Kind) (count time : ℕ) (vocabulary : Vocabulary) (ids given : List (Option ℕ))
+    → kind ≡ Add → given ≡ known_ids vocabulary.terms ids
+    → ((base : List Term) → IsBase base count time → AreSpelled vocabulary → BindWell time vocabulary.terms → AreIdsAt time base vocabulary.terms given → C base (with_terms base (map (bound_term time) vocabulary.terms)))
+    → (base : List Term) → IsBase base count time → AreSpelled vocabulary → BindWell time vocabulary.terms → AreIdsIn base vocabulary.terms ids
+    → C base (with_terms base (brought kind (map (bound_term time) vocabulary.terms)))
+add_tells C kind count time vocabulary ids given add gives tells base base_is spelled bind are =
     let f = bound_term time in
-    let gives : given ≡ known_ids terms ids = is ∙ (λ i. known_ids (same i) (also i)) in
-    let all : AreIdsAt time base terms given = subst (AreIdsAt time base terms) (sym gives) (known_all base time base_is.earlier terms ids are) in
-    let told = tells base base_is (subst (BindWell time) (sym same) bind) (subst (λ (ts : List Term). AreIdsAt time base ts given) (sym same) all) in
-    subst (λ (k : Kind). C base (with_terms base (brought k (map f terms))) terms) (sym add) (subst (λ (ts : List Term). C base (with_terms base (map f ts)) ts) same told)
+    let all : AreIdsAt time base vocabulary.terms given = subst (AreIdsAt time base vocabulary.terms) (sym gives) (known_all base time base_is.earlier vocabulary.terms ids are) in
+    subst (λ (k : Kind). C base (with_terms base (brought k (map f vocabulary.terms)))) (sym add) (tells base base_is spelled bind all)
 
 -- a Remove gives none
-pub remove_ids : (kind : Kind) (count time : ℕ) (terms vocabulary : List Term) (ids raw given : List (Option ℕ))
-    → kind ≡ Remove → vocabulary ≡ terms → raw ≡ ids → given ≡ known_ids vocabulary raw
+pub remove_ids : (kind : Kind) (count time : ℕ) (terms : List Term) (ids given : List (Option ℕ))
+    → kind ≡ Remove → given ≡ known_ids terms ids
     → (base : List Term) → IsBase base count time → AreIdsIn base terms ids → AreIdsAt time (with_terms base (brought kind (map (bound_term time) terms))) terms given
-remove_ids kind count time terms vocabulary ids raw given remove same also is base base_is are =
-    let gives : given ≡ known_ids terms ids = is ∙ (λ i. known_ids (same i) (also i)) in
+remove_ids kind count time terms ids given remove gives base base_is are =
     let all : AreIdsAt time base terms given = subst (AreIdsAt time base terms) (sym gives) (known_all base time base_is.earlier terms ids are) in
     subst (λ (k : Kind). AreIdsAt time (with_terms base (brought k (map (bound_term time) terms))) terms given) (sym remove) all
 
-pub remove_numbering : (kind : Kind) (count time : ℕ) (terms : List Term) (entries : List (List ℕ × ℕ)) → kind ≡ Remove → entries ≡ []
+pub remove_numbering : (kind : Kind) (count time : ℕ) (terms : List Term) (entries : List NewTerm) → kind ≡ Remove → entries ≡ []
     → (base : List Term) → IsBase base count time → IsNumbering base (with_terms base (brought kind (map (bound_term time) terms))) count entries
 remove_numbering kind count time terms entries remove none base base_is =
     subst (λ (k : Kind). IsNumbering base (with_terms base (brought k (map (bound_term time) terms))) count entries) (sym remove) (numbering_base base count time entries base_is none)

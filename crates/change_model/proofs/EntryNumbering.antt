@@ -1,27 +1,21 @@
 -- How a numbering goes on with one more term.
-use Rattle.std.proofs.Common.{◌≡◌, ℕ, zero, suc, ◌≤◌, false, List, [], ◌∷◌, ◌++◌, length, Some, None, ◌⊎◌, inl, inr, ◌↔◌, refl, sym, ◌∙◌, ap, subst, arith, append_assoc, length-append}
-use Rattle.std.specs.declared.cmp.Ordering.{Ordering}
-use Rattle.std.specs.declared.cmp.Ordering.TheVariants.{Less, Equal, Greater}
-use Rattle.std.specs.Ordering.{nat_cmp, match_ordering, is_eq}
-use Rattle.std.specs.Cmp.{Equal-is, tied_itself}
-use Rattle.std.specs.Cmp.Lexicographic.{slice_cmp, nat_list_cmp_total}
+use Rattle.std.proofs.Common.{◌≡◌, ℕ, zero, suc, ◌+◌, ◌-◌, ◌<◌, ◌≤◌, Bool, true, false, cond, List, [], ◌∷◌, ◌++◌, length, Option, Some, None, ◌⊎◌, inl, inr, ◌↔◌, refl, sym, ◌∙◌, ap, subst, arith, append_assoc, length-append, Bor}
+use Rattle.std.specs.Option.{option_copied, IfSome}
 use Rattle.std.specs.List.{slice_get, AllByRecursion}
-use Rattle.std.specs.Map.{lookup}
-use Rattle.std.specs.BTreeMap.{is_at, insert_entry}
 use Rattle.std.proofs.lemmas.Bool.{false≢true}
 use Rattle.std.proofs.lemmas.Option.{none-some, same_Some}
-use Rattle.std.proofs.lemmas.Map.{NonePasses, none_passes_from_lookup}
-use Rattle.std.proofs.lemmas.Map.Entries.{place_from_lookup}
-use Rattle.std.proofs.lemmas.Map.Lookups.{exact_bytes}
+use Rattle.std.specs.Cmp.Lexicographic.{bytes_decides}
 use Rattle.term_core.specs.declared.term.Term.{Term}
-use Rattle.term_core.specs.Lists.{Has}
+use Rattle.term_core.specs.declared.term.Term.TheVariants.{Iri, Literal, Tagged, Blank}
+use Rattle.base_core.specs.Lists.{Has}
 use Rattle.term_core.specs.Term.{IsTerm}
 use Rattle.term_core.specs.Spelling.{spelling}
-use Rattle.change_model.specs.Lexicon.{with_term}
-use Rattle.change_model.specs.Numbering.{HasIdIn, IsBrought, IsNumbering}
-use Rattle.change_model.proofs.Members.{slice_get-last, length-one_more, place_of, at_place, each_of}
+use Rattle.change_model.specs.declared.numbering.NewTerm.{NewTerm}
+use Rattle.change_model.specs.History.{bound_term}
+use Rattle.change_model.specs.Lexicon.{same_text, with_term}
+use Rattle.change_model.specs.Numbering.{HasIdIn, IsIdIn, new_terms, IsNumbering, IsUnlabelled, IsNext, IsGiving, IsGiven}
+use Rattle.change_model.proofs.Members.{slice_get-last, length-one_more, place_of, at_place}
 use Rattle.change_model.proofs.VocabularyTerms.{with_term-known, with_term-new, with_term-keeps, grown_place}
-use Rattle.term_core.proofs.Spelling.{spelling_same}
 
 -- where an element of a longer list stands
 last_place : {A : Type 0} → (xs : List A) (last y : A) (place : ℕ) → slice_get (xs ++ (last ∷ [])) place ≡ Some y
@@ -52,114 +46,189 @@ from_base : (base known : List Term) (term : Term) (id : ℕ) → (new : List Te
 from_base base known term id grown has =
     (has.0, subst (λ (ts : List Term). slice_get ts has.0 ≡ Some term) (sym grown.1) (grown_place base grown.0 has.0 term has.1), has.2)
 
--- what is known of a term after it was numbered
-pub record IsStep (base known : List Term) (term : Term) (id number : ℕ) (entries : List (List ℕ × ℕ)) : Type 0 where
-  pub given : HasIdIn (with_term known term) term id
-  pub numbering : IsNumbering base (with_term known term) number entries
+-- ---- the terms that were brought
 
-unchanged : (base known : List Term) (term : Term) (id number : ℕ) (entries : List (List ℕ × ℕ)) → HasIdIn known term id → IsNumbering base known number entries
-    → IsStep base known term id number entries
-unchanged base known term id number entries has is =
-    let same = sym (with_term-known known term (stands known term id has)) in
-    record {
-      given = subst (λ (ts : List Term). HasIdIn ts term id) same has;
-      numbering = subst (λ (ts : List Term). IsNumbering base ts number entries) same is;
-    }
+-- one more of them
+new_terms-push : (number : ℕ) (terms : List Term) (term : Term) (id : ℕ) → id ≡ suc (number + length terms)
+    → new_terms number (terms ++ (term ∷ [])) ≡ new_terms number terms ++ (record { key = spelling term; id = id } ∷ [])
+new_terms-push number [] term id is = let same : suc number ≡ id = omega arith in λ i. record { key = spelling term; id = same i } ∷ []
+new_terms-push number (first ∷ terms) term id is = ap (λ rest. record { key = spelling first; id = suc number } ∷ rest) (new_terms-push (suc number) terms term id (omega arith))
 
--- a term that had its id before
-pub step_known : (base known : List Term) (term : Term) (id number : ℕ) (entries : List (List ℕ × ℕ)) → HasIdIn base term id → IsNumbering base known number entries
-    → IsStep base known term id number entries
-step_known base known term id number entries has is = unchanged base known term id number entries (from_base base known term id is.grown has) is
+-- the spelling of a known term that is not among the first ones, and its id
+pub record IsBrought (base known : List Term) (entry : NewTerm) : Type 0 where
+  pub term : Term
+  pub has : HasIdIn known term entry.id
+  pub new : length base < entry.id
+  pub spelled : entry.key ≡ spelling term
 
--- a term that was brought earlier
-pub step_found : (base known : List Term) (term : Term) (key : List ℕ) (id number : ℕ) (entries : List (List ℕ × ℕ)) → IsTerm term → key ≡ spelling term
-    → Some id ≡ lookup (is_at (slice_cmp nat_cmp key)) entries → IsNumbering base known number entries
-    → IsStep base known term id number entries
-step_found base known term key id number entries rules spelled found is =
-    let there = place_from_lookup (is_at (slice_cmp nat_cmp key)) entries id (sym found) in
-    let same : key ≡ there.1 = exact_bytes key there.1 ((Equal-is _).0 there.3) in
-    let entry : Has entries (key, id) = subst (λ (k : List ℕ). Has entries (k, id)) (sym same) (at_place entries there.0 (there.1, id) there.2) in
-    let brought = (is.brought key id).0 entry in
-    let other : IsTerm brought.term = each_of IsTerm known brought.term is.rules (stands known brought.term id brought.has) in
-    let one : brought.term ≡ term = spelling_same brought.term term other rules (sym brought.spelled ∙ spelled) in
-    unchanged base known term id number entries (subst (λ (t : Term). HasIdIn known t id) one brought.has) is
+-- a brought term stands at its place behind so many
+record IsNewAt (number : ℕ) (terms : List Term) (entry : NewTerm) : Type 0 where
+  place : ℕ
+  term : Term
+  at : slice_get terms place ≡ Some term
+  id_is : entry.id ≡ suc (number + place)
+  spelled : entry.key ≡ spelling term
 
--- no entry of the key, where a look-up finds none
-absent_key : (key : List ℕ) (id : ℕ) (entries : List (List ℕ × ℕ)) → None ≡ lookup (is_at (slice_cmp nat_cmp key)) entries → Has entries (key, id) → ⊥
-absent_key key id entries none h =
-    let fails = each_of (λ (e : List ℕ × ℕ). is_at (slice_cmp nat_cmp key) e.0 ≡ false) entries (key, id) (none_passes_from_lookup (is_at (slice_cmp nat_cmp key)) entries (sym none)) h in
-    false≢true (sym fails ∙ (Equal-is _).1 (tied_itself nat_list_cmp_total key))
+new_at : (number : ℕ) (terms : List Term) (entry : NewTerm) → Has (new_terms number terms) entry → IsNewAt number terms entry
+new_at number [] entry h = absurd h
+new_at number (term ∷ terms) entry (inl same) =
+    record { place = 0; term = term; at = refl; id_is = let e = ap (λ (n : NewTerm). n.id) same in omega arith; spelled = sym (ap (λ (n : NewTerm). n.key) same) }
+new_at number (term ∷ terms) entry (inr more) =
+    let rest = new_at (suc number) terms entry more in
+    record { place = suc rest.place; term = rest.term; at = rest.at; id_is = let e = rest.id_is in omega arith; spelled = rest.spelled }
 
-inserted_by : (r : Ordering) (key : List ℕ) (id : ℕ) (first : List ℕ × ℕ) (entries rest : List (List ℕ × ℕ)) (e : List ℕ × ℕ)
-    → is_eq r ≡ false → (Has rest e ↔ (Has entries e ⊎ ((key, id) ≡ e)))
-    → (Has (match_ordering r ((key, id) ∷ first ∷ entries) ((first.0, id) ∷ entries) (first ∷ rest)) e ↔ (Has (first ∷ entries) e ⊎ ((key, id) ≡ e)))
-inserted_by Less key id first entries rest e apart step = (λ h. elim h [ inl i ↦ inr i | inr i ↦ inl i ], λ h. elim h [ inl i ↦ inr i | inr i ↦ inl i ])
-inserted_by Equal key id first entries rest e apart step = absurd (false≢true (sym apart))
-inserted_by Greater key id first entries rest e apart step = (
-  λ h. elim h [ inl i ↦ inl (inl i) | inr i ↦ (elim (step.0 i) [ inl j ↦ inl (inr j) | inr j ↦ inr j ]) ],
-  λ h. elim h [ inl i ↦ (elim i [ inl j ↦ inl j | inr j ↦ inr (step.1 (inl j)) ]) | inr i ↦ inr (step.1 (inr i)) ],
+new_has : (number : ℕ) (terms : List Term) (entry : NewTerm) (place : ℕ) (term : Term) → slice_get terms place ≡ Some term → entry.id ≡ suc (number + place) → entry.key ≡ spelling term
+    → Has (new_terms number terms) entry
+new_has number [] entry place term at id spelled = absurd (none-some term at)
+new_has number (first ∷ terms) entry zero term at id spelled =
+    let key : spelling first ≡ entry.key = ap spelling (same_Some first term at) ∙ sym spelled in
+    let same : suc number ≡ entry.id = omega arith in
+    inl (λ i. record { key = key i; id = same i })
+new_has number (first ∷ terms) entry (suc place) term at id spelled = inr (new_has (suc number) terms entry place term at (omega arith) spelled)
+
+behind : (xs ys : List Term) (place : ℕ) → slice_get (xs ++ ys) (length xs + place) ≡ slice_get ys place
+behind [] ys place = ap (slice_get ys) (let e : 0 + place ≡ place = omega arith in e)
+behind (x ∷ xs) ys place = ap (slice_get (x ∷ (xs ++ ys))) (let e : suc (length xs) + place ≡ suc (length xs + place) = omega arith in e) ∙ behind xs ys place
+
+-- they are the known ones that are not among the first
+pub brought_told : (base known : List Term) (number : ℕ) (brought : List NewTerm) → IsNumbering base known number brought → (entry : NewTerm)
+    → (Has brought entry ↔ IsBrought base known entry)
+brought_told base known number brought is entry = (
+  λ h.
+      let at = new_at (length base) is.grown.0 entry (subst (λ (es : List NewTerm). Has es entry) is.entries h) in
+      let there : slice_get known (length base + at.place) ≡ Some at.term = ap (λ ts. slice_get ts (length base + at.place)) is.grown.1 ∙ behind base is.grown.0 at.place ∙ at.at in
+      record { term = at.term; has = (length base + at.place, there, at.id_is); new = let e = at.id_is in omega arith; spelled = at.spelled },
+  λ b.
+      let place = b.has.0 - length base in
+      let e = b.has.2 in
+      let new = b.new in
+      let whole : length base + place ≡ b.has.0 = omega arith in
+      let there : slice_get is.grown.0 place ≡ Some b.term =
+      sym (behind base is.grown.0 place) ∙ ap (slice_get (base ++ is.grown.0)) whole ∙ ap (λ ts. slice_get ts b.has.0) (sym is.grown.1) ∙ b.has.1 in
+      subst (λ (es : List NewTerm). Has es entry) (sym is.entries) (new_has (length base) is.grown.0 entry place b.term there (omega arith) b.spelled),
 )
 
--- the entries with one more key
-inserted : (key : List ℕ) (id : ℕ) (entries : List (List ℕ × ℕ)) → NonePasses (is_at (slice_cmp nat_cmp key)) entries → (e : List ℕ × ℕ)
-    → (Has (insert_entry (slice_cmp nat_cmp) entries key id) e ↔ (Has entries e ⊎ ((key, id) ≡ e)))
-inserted key id [] none e = (λ h. elim h [ inl i ↦ inr i | inr i ↦ absurd i ], λ h. elim h [ inl i ↦ absurd i | inr i ↦ inl i ])
-inserted key id (first ∷ entries) none e =
-    inserted_by (slice_cmp nat_cmp key first.0) key id first entries (insert_entry (slice_cmp nat_cmp) entries key id) e none.0 (inserted key id entries none.1 e)
-
--- a term that is in neither part is new
-fresh : (base known : List Term) (term : Term) (key : List ℕ) (number : ℕ) (entries : List (List ℕ × ℕ)) → key ≡ spelling term
-    → ((id : ℕ) → HasIdIn base term id → ⊥) → None ≡ lookup (is_at (slice_cmp nat_cmp key)) entries → IsNumbering base known number entries → Has known term → ⊥
-fresh base known term key number entries spelled unknown none is h =
-    let here = place_of known term h in
-    let parts = front_place base is.grown.0 term here.0 (subst (λ (ts : List Term). slice_get ts here.0 ≡ Some term) is.grown.1 here.1) in
-    elim parts [
-      | inl before ↦ unknown (suc here.0) (here.0, before, refl)
-      | inr behind ↦ absent_key key (suc here.0) entries none
-          ((is.brought key (suc here.0)).1 (record { term = term; has = (here.0, here.1, refl); new = omega (arith, behind); spelled = spelled }))
-    ]
-
--- the entries say what is known with one more term
-brought_more : (base known : List Term) (term : Term) (key : List ℕ) (number : ℕ) (entries : List (List ℕ × ℕ)) → key ≡ spelling term
-    → None ≡ lookup (is_at (slice_cmp nat_cmp key)) entries → IsNumbering base known number entries → (k : List ℕ) (id : ℕ)
-    → (Has (insert_entry (slice_cmp nat_cmp) entries key (suc number)) (k, id) ↔ IsBrought base (known ++ (term ∷ [])) k id)
-brought_more base known term key number entries spelled none is k id =
-    let entry = inserted key (suc number) entries (none_passes_from_lookup (is_at (slice_cmp nat_cmp key)) entries (sym none)) (k, id) in
-    let long : length base ≤ length known = omega (arith, ap length is.grown.1, length-append base is.grown.0) in
-    let old = is.brought k id in (
-      λ h. elim (entry.0 h) [
-        | inl before ↦ (let was = old.0 before in
-            record { term = was.term; has = (was.has.0, grown_place known (term ∷ []) was.has.0 was.term was.has.1, was.has.2); new = was.new; spelled = was.spelled })
-        | inr last ↦ record {
-          term = term;
-          has = (length known, slice_get-last known term, sym (ap (λ (e : List ℕ × ℕ). e.1) last) ∙ ap suc is.count);
-          new = let at = ap (λ (e : List ℕ × ℕ). e.1) last in let count = is.count in omega arith;
-          spelled = sym (ap (λ (e : List ℕ × ℕ). e.0) last) ∙ spelled;
-        }
-      ],
-      λ b. entry.1 (elim (last_place known term b.term b.has.0 b.has.1) [
-        | inl before ↦ inl (old.1 (record { term = b.term; has = (b.has.0, before, b.has.2); new = b.new; spelled = b.spelled }))
-        | inr last ↦ inr (
-            let one : key ≡ k = spelled ∙ ap spelling last.1 ∙ sym b.spelled in
-            let other : suc number ≡ id = ap suc (is.count ∙ sym last.0) ∙ sym b.has.2 in
-            λ i. (one i, other i))
-      ]),
-    )
+-- ---- one more term
 
 -- a new term
-pub step_new : (base known : List Term) (term : Term) (key : List ℕ) (number id : ℕ) (entries after : List (List ℕ × ℕ)) → IsTerm term → key ≡ spelling term
-    → ((id : ℕ) → HasIdIn base term id → ⊥) → None ≡ lookup (is_at (slice_cmp nat_cmp key)) entries → id ≡ suc number → after ≡ insert_entry (slice_cmp nat_cmp) entries key id
-    → IsNumbering base known number entries → IsStep base known term id id after
-step_new base known term key number id entries after rules spelled unknown none next put is =
-    let is_new = with_term-new known term (fresh base known term key number entries spelled unknown none is) in
-    let put_is : after ≡ insert_entry (slice_cmp nat_cmp) entries key (suc number) = put ∙ ap (insert_entry (slice_cmp nat_cmp) entries key) next in
-    let made : IsNumbering base (known ++ (term ∷ [])) id after = record {
-      grown = (is.grown.0 ++ (term ∷ []), ap (λ ts. ts ++ (term ∷ [])) is.grown.1 ∙ append_assoc base is.grown.0 (term ∷ []));
-      rules = each_push IsTerm known term is.rules rules;
-      count = next ∙ ap suc is.count ∙ sym (length-one_more known term);
-      brought = λ k n. subst (λ (es : List (List ℕ × ℕ)). Has es (k, n) ↔ IsBrought base (known ++ (term ∷ [])) k n) (sym put_is) (brought_more base known term key number entries spelled none is k n);
-    } in
+record IsNumbered (base known : List Term) (term : Term) (id : ℕ) (brought : List NewTerm) : Type 0 where
+  terms : with_term known term ≡ known ++ (term ∷ [])
+  has : HasIdIn (known ++ (term ∷ [])) term id
+  numbering : IsNumbering base (known ++ (term ∷ [])) id brought
+
+numbered_new : (base known : List Term) (term : Term) (key : List ℕ) (number id : ℕ) (brought after : List NewTerm) → IsTerm term → key ≡ spelling term → (Has known term → ⊥)
+    → id ≡ number + 1 → after ≡ brought ++ (record { key = key; id = id } ∷ []) → IsNumbering base known number brought → IsNumbered base known term id after
+numbered_new base known term key number id brought after rules spelled new next put is =
+    let long : id ≡ suc (length base + length is.grown.0) = let e = is.count in omega (arith, ap length is.grown.1, length-append base is.grown.0) in
+    let last : id ≡ suc (length known) = let e = is.count in omega arith in
     record {
-      given = subst (λ (ts : List Term). HasIdIn ts term id) (sym is_new) (length known, slice_get-last known term, next ∙ ap suc is.count);
-      numbering = subst (λ (ts : List Term). IsNumbering base ts id after) (sym is_new) made;
+      terms = with_term-new known term new;
+      has = (length known, slice_get-last known term, last);
+      numbering = record {
+        grown = (is.grown.0 ++ (term ∷ []), ap (λ ts. ts ++ (term ∷ [])) is.grown.1 ∙ append_assoc base is.grown.0 (term ∷ []));
+        rules = each_push IsTerm known term is.rules rules;
+        count = last ∙ sym (length-one_more known term);
+        entries = put ∙ (λ i. is.entries i ++ (record { key = spelled i; id = id } ∷ [])) ∙ sym (new_terms-push (length base) is.grown.0 term id long);
+      };
     }
+
+-- a term that was known before
+unchanged : (base known : List Term) (time : ℕ) (term : Term) (id number : ℕ) (brought : List NewTerm) (nodes : List ℕ → Option ℕ)
+    → HasIdIn known (bound_term time term) id → IsGiving base known time number brought nodes → IsGiven base known time term id number brought nodes
+unchanged base known time term id number brought nodes has is =
+    let same = sym (with_term-known known (bound_term time term) (stands known (bound_term time term) id has)) in
+    record {
+      given = subst (λ (ts : List Term). HasIdIn ts (bound_term time term) id) same has;
+      giving = subst (λ (ts : List Term). IsGiving base ts time number brought nodes) same is;
+    }
+
+-- what another term has, it still has
+other_id : (known : List Term) (term q : Term) (id : Option ℕ) → (term ≡ q → ⊥) → IsIdIn known q id → IsIdIn (known ++ (term ∷ [])) q id
+other_id known term q None apart none = λ id has.
+    elim (last_place known term q has.0 has.1) [ inl before ↦ none id (has.0, before, has.2) | inr last ↦ apart last.1 ]
+other_id known term q (Some id) apart has = (has.0, grown_place known (term ∷ []) has.0 q has.1, has.2)
+
+unlabelled_is : (time : ℕ) (term : Term) → IsUnlabelled term → bound_term time term ≡ term
+unlabelled_is time (Iri iri) plain = refl
+unlabelled_is time (Literal form datatype) plain = refl
+unlabelled_is time (Tagged form tag) plain = refl
+unlabelled_is time (Blank at label) plain = absurd plain
+
+no_node : (time : ℕ) (term : Term) (label : List ℕ) → IsUnlabelled term → term ≡ Blank time label → ⊥
+no_node time term label plain same = subst IsUnlabelled same plain
+
+-- a term without a label that had its id before
+pub given_known : (base known : List Term) (time : ℕ) (term : Term) (id number : ℕ) (brought : List NewTerm) (nodes : List ℕ → Option ℕ)
+    → IsNext base known time term (Some id) → IsGiving base known time number brought nodes → IsGiven base known time term id number brought nodes
+given_known base known time term id number brought nodes next is =
+    unchanged base known time term id number brought nodes (from_base base known (bound_term time term) id is.numbering.grown next.id_is) is
+
+-- a term without a label that has none yet
+pub given_new : (base known : List Term) (time : ℕ) (term : Term) (key : List ℕ) (number id : ℕ) (brought after : List NewTerm) (nodes : List ℕ → Option ℕ)
+    → IsUnlabelled term → key ≡ spelling term → id ≡ number + 1 → after ≡ brought ++ (record { key = key; id = id } ∷ [])
+    → IsNext base known time term None → IsGiving base known time number brought nodes → IsGiven base known time term id id after nodes
+given_new base known time term key number id brought after nodes plain spelled next put comes is =
+    let bound = unlabelled_is time term plain in
+    let new : Has known term → ⊥ = λ h.
+    let place = place_of base term (comes.once plain h) in comes.id_is (suc place.0) (place.0, place.1 ∙ ap Some (sym bound), refl) in
+    let made = numbered_new base known term key number id brought after (subst IsTerm bound comes.rules) spelled new next put is.numbering in
+    let given : HasIdIn (with_term known term) term id × IsGiving base (with_term known term) time id after nodes =
+    subst (λ (ts : List Term). HasIdIn ts term id × IsGiving base ts time id after nodes) (sym made.terms)
+    (made.has, record { numbering = made.numbering; nodes_are = λ label. other_id known term (Blank time label) (nodes label) (no_node time term label plain) (is.nodes_are label) }) in
+    let all : HasIdIn (with_term known (bound_term time term)) (bound_term time term) id × IsGiving base (with_term known (bound_term time term)) time id after nodes =
+    subst (λ (t : Term). HasIdIn (with_term known t) t id × IsGiving base (with_term known t) time id after nodes) (sym bound) given in
+    record { given = all.0; giving = all.1 }
+
+-- a label that another term bears too
+pub given_found : (base known : List Term) (time : ℕ) (label : List ℕ) (id number : ℕ) (brought : List NewTerm) (nodes : List ℕ → Option ℕ)
+    → Some id ≡ nodes label → IsGiving base known time number brought nodes → IsGiven base known time (Blank time label) id number brought nodes
+given_found base known time label id number brought nodes found is =
+    unchanged base known time (Blank time label) id number brought nodes (subst (IsIdIn known (Blank time label)) (sym found) (is.nodes_are label)) is
+
+labels_same : (time : ℕ) (label q : List ℕ) → Blank time label ≡ Blank time q → label ≡ q
+labels_same time label q same = cc
+
+node_by : (known : List Term) (time : ℕ) (label q : List ℕ) (id : ℕ) (old : Option ℕ) (b : Bool) → same_text label q ≡ b → HasIdIn (known ++ (Blank time label ∷ [])) (Blank time label) id
+    → IsIdIn known (Blank time q) old → IsIdIn (known ++ (Blank time label ∷ [])) (Blank time q) (cond b (Some id) old)
+node_by known time label q id old true e has is = subst (λ (l : List ℕ). HasIdIn (known ++ (Blank time label ∷ [])) (Blank time l) id) ((bytes_decides label q).0 e) has
+node_by known time label q id old false e has is =
+    other_id known (Blank time label) (Blank time q) old (λ same. false≢true (sym e ∙ (bytes_decides label q).1 (labels_same time label q same))) is
+
+-- a label that is new
+pub given_node : (base known : List Term) (time : ℕ) (label key : List ℕ) (number id : ℕ) (brought after : List NewTerm) (nodes more : List ℕ → Option ℕ)
+    → IsTerm (Blank time label) → key ≡ spelling (Blank time label) → id ≡ number + 1 → after ≡ brought ++ (record { key = key; id = id } ∷ [])
+    → None ≡ nodes label → ((q : List ℕ) → more q ≡ cond (same_text label q) (Some id) (nodes q))
+    → IsGiving base known time number brought nodes → IsGiven base known time (Blank time label) id id after more
+given_node base known time label key number id brought after nodes more rules spelled next put absent told is =
+    let node = Blank time label in
+    let none : IsIdIn known node None = subst (IsIdIn known node) (sym absent) (is.nodes_are label) in
+    let new : Has known node → ⊥ = λ h. let place = place_of known node h in none (suc place.0) (place.0, place.1, refl) in
+    let made = numbered_new base known node key number id brought after rules spelled new next put is.numbering in
+    let all : HasIdIn (with_term known node) node id × IsGiving base (with_term known node) time id after more =
+    subst (λ (ts : List Term). HasIdIn ts node id × IsGiving base ts time id after more) (sym made.terms) (
+      made.has,
+      record {
+        numbering = made.numbering;
+        nodes_are = λ q. subst (IsIdIn (known ++ (node ∷ [])) (Blank time q)) (sym (told q)) (node_by known time label q id (nodes q) (same_text label q) refl made.has (is.nodes_are q));
+      },
+    ) in
+    record { given = all.0; giving = all.1 }
+
+-- the count by another name
+pub counted_as : (base known : List Term) (time : ℕ) (term : Term) (id number count : ℕ) (brought : List NewTerm) (nodes : List ℕ → Option ℕ) → count ≡ number
+    → IsGiven base known time term id number brought nodes → IsGiven base known time term id count brought nodes
+counted_as base known time term id number count brought nodes same is = subst (λ (n : ℕ). IsGiven base known time term id n brought nodes) (sym same) is
+
+-- a label of any time is bound to this one
+pub bound_alike : (base known : List Term) (time at : ℕ) (term : Term) (label : List ℕ) (id number : ℕ) (brought : List NewTerm) (nodes : List ℕ → Option ℕ) → term ≡ Blank at label
+    → IsGiven base known time (Blank time label) id number brought nodes → IsGiven base known time term id number brought nodes
+bound_alike base known time at term label id number brought nodes same is =
+    subst (λ (t : Term). IsGiven base known time t id number brought nodes) (sym same) (record { given = is.given; giving = is.giving })
+
+pub node_rules : (base known : List Term) (time at : ℕ) (term : Term) (label : List ℕ) (id : Option ℕ) → term ≡ Blank at label → IsNext base known time term id → IsTerm (Blank time label)
+node_rules base known time at term label id same next = subst (λ (t : Term). IsTerm (bound_term time t)) same next.rules
+
+-- a reference that shows a value
+pub shown_is : {T : Type 0} (found : Option (Bor T)) (value : T) → option_copied found ≡ Some value → IfSome found (λ shown. shown.now ≡ value)
+shown_is None value e = tt
+shown_is (Some shown) value e = same_Some shown.now value e

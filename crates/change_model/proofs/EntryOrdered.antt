@@ -1,47 +1,34 @@
 -- Rows that are sorted by key, each key once.
-use Rattle.std.proofs.Common.{◌≡◌, Bool, List, [], ◌∷◌, inl, inr, refl, sym, ap, subst}
+use Rattle.std.proofs.Common.{◌≡◌, ℕ, Bool, true, false, cond, List, [], ◌∷◌, map, inl, inr, ◌↔◌, refl, sym, ◌∙◌, ap, subst}
 use Rattle.std.specs.declared.cmp.Ordering.{Ordering}
 use Rattle.std.specs.declared.cmp.Ordering.TheVariants.{Less}
-use Rattle.std.specs.Prelude.{nat_eq}
-use Rattle.std.specs.Ordering.{nat_cmp, is_lt}
+use Rattle.std.specs.Ordering.{nat_cmp, is_lt, is_eq}
 use Rattle.std.specs.Cmp.{IsTotalOrder, IsEquivalence}
-use Rattle.std.specs.Cmp.Lexicographic.{pointwise, slice_cmp, nat_list_cmp_total, nat_list_eq_equiv, texts_ties, bytes_decides}
-use Rattle.std.specs.List.{All, Contains, dedup}
+use Rattle.std.specs.Cmp.Lexicographic.{slice_cmp, nat_list_cmp_total, nat_list_eq_equiv, texts_ties, bytes_decides}
+use Rattle.std.specs.List.{All, AllByRecursion, Contains, dedup, dedup_from, IsDistinct}
 use Rattle.std.specs.List.Sorted.{IsPermutation, IsSorted, IsStrictlySortedBy}
+use Rattle.std.proofs.lemmas.Bool.{false≢true}
 use Rattle.std.proofs.lemmas.List.Elements.{All-contains, All-contains_itself, All-weaker, All-cons, All-nil, recursion_from_All}
 use Rattle.std.proofs.lemmas.List.Filters.{All-dedup}
 use Rattle.std.proofs.lemmas.List.Kept.{Any-dedup, IsStrictlySortedBy-dedup}
 use Rattle.std.proofs.lemmas.List.Sorted.{All-permutation, IsPermutation-sym}
-use Rattle.std.proofs.lemmas.Map.Keys.{sorted_tail}
-use Rattle.std.proofs.lemmas.Map.Views.{All-after_first}
-use Rattle.term_core.specs.Lists.{Has}
+use Rattle.std.proofs.lemmas.Map.Keys.{sorted_head, sorted_tail, IsDistinct-from_sorted, IsDistinct-head, IsDistinct-tail, IsDistinct-cons, IsDistinct-IsPermutation}
+use Rattle.base_core.specs.Lists.{Has}
+use Rattle.triple_keys.specs.declared.key.Ids.{Ids}
+use Rattle.triple_keys.specs.declared.order.Order.{Order}
+use Rattle.triple_keys.specs.declared.order.Order.TheVariants.{Spo}
+use Rattle.triple_keys.specs.Keys.{key_bytes}
+use Rattle.triple_keys.proofs.Spelling.{key_bytes-turned}
 use Rattle.window_core.specs.declared.rows.Row.{Row}
 use Rattle.window_core.specs.Rows.{ComesBefore, StandInOrder}
-use Rattle.change_model.specs.EntryRows.{AgreeByKey, AreOrdered}
-use Rattle.change_model.proofs.Members.{each_of}
+use Rattle.change_model.specs.declared.history.Kind.{Kind}
+use Rattle.change_model.specs.IndexRows.{cell_of}
+use Rattle.change_model.specs.EntryRows.{HaveOwnKeys, AreOrdered, key_cmp, statement_row}
+use Rattle.change_model.proofs.Members.{each_of, Has-map, Has-from_map}
+use Rattle.change_model.proofs.VocabularyTerms.{false_unless}
 
--- the order of rows by their keys
-abbrev pub row_cmp : Row → Row → Ordering
-row_cmp one other = slice_cmp nat_cmp one.key other.key
+-- ---- two ways to say that something stands in a list
 
-abbrev pub same_key : Row → Row → Bool
-same_key one other = pointwise nat_eq one.key other.key
-
-row_total : IsTotalOrder row_cmp
-row_total = record {
-  antisymm = λ x y. nat_list_cmp_total.antisymm x.key y.key;
-  trans = λ x y z. nat_list_cmp_total.trans x.key y.key z.key;
-  congr = λ x y z. nat_list_cmp_total.congr x.key y.key z.key;
-}
-
-row_equiv : IsEquivalence same_key
-row_equiv = record {
-  refl = λ x. nat_list_eq_equiv.refl x.key;
-  symm = λ x y. nat_list_eq_equiv.symm x.key y.key;
-  congr = λ x y z. nat_list_eq_equiv.congr x.key y.key z.key;
-}
-
--- two ways to say that something stands in a list
 All-Has : {A : Type 0} (xs : List A) → All (Has xs) xs
 All-Has [] = All-nil (Has [])
 All-Has (x ∷ xs) = All-cons (Has (x ∷ xs)) x xs (inl refl) (All-weaker (Has xs) (Has (x ∷ xs)) (λ y h. inr h) xs (All-Has xs))
@@ -56,39 +43,178 @@ each_has : {A : Type 0} (P : A → Type 0) (xs : List A) (x : A) → All P xs �
 each_has P xs x all h = each_of P xs x (recursion_from_All P xs all) h
 
 -- moved rows are the same rows
-pub moved_has : {A : Type 0} (xs ys : List A) → IsPermutation xs ys → (x : A) → Has ys x → Has xs x
+moved_has : {A : Type 0} (xs ys : List A) → IsPermutation xs ys → (x : A) → Has ys x → Has xs x
 moved_has xs ys moved x h = each_has (Has xs) ys x (All-permutation (Has xs) xs ys moved (All-Has xs)) h
 
--- where rows of one key agree, none is lost
-dedup_keeps : (rows : List Row) → AgreeByKey rows → (row : Row) → Has rows row → Has (dedup same_key rows) row
-dedup_keeps rows agree row h =
-    let found = Any-dedup row_equiv rows row (Contains-from_Has rows row h) in
-    let there : Has (dedup same_key rows) found.1 = Has-from_Contains (dedup same_key rows) found.1 (found.0, found.2, found.3) in
-    let back : Has rows found.1 = each_has (Has rows) (dedup same_key rows) found.1 (All-dedup same_key (Has rows) rows (All-Has rows)) there in
-    let same : row ≡ found.1 = agree row found.1 h back ((bytes_decides row.key found.1.key).0 found.4) in
-    subst (Has (dedup same_key rows)) (sym same) there
+moved_same : {A : Type 0} (xs ys : List A) → IsPermutation xs ys → (x : A) → (Has ys x ↔ Has xs x)
+moved_same xs ys moved x = (moved_has xs ys moved x, moved_has ys xs (IsPermutation-sym xs ys moved) x)
 
--- strictly sorted rows stand in order
-strict_order : (rows : List Row) → IsStrictlySortedBy row_cmp rows → StandInOrder rows
-strict_order [] up = tt
-strict_order (row ∷ rows) up = (
-  recursion_from_All (ComesBefore row) rows
-      (All-weaker (λ other. row_cmp row other ≡ Less) (ComesBefore row) (λ other less. inl (ap is_lt less)) rows (All-after_first row_cmp row rows up)),
-  strict_order rows (sorted_tail row_cmp row rows up),
+map_same : {A B : Type 0} (f : A → B) (xs ys : List A) → ((x : A) → Has xs x → Has ys x) → (y : B) → Has (map f xs) y → Has (map f ys) y
+map_same f xs ys same y h = let from = Has-from_map f xs y h in subst (Has (map f ys)) from.2 (Has-map f ys from.0 (same from.0 from.1))
+
+-- ---- what is ordered by keys
+
+module _ {A : Type 0} (key : A → List ℕ) where
+  abbrev pub by_key : A → A → Ordering
+  by_key one other = slice_cmp nat_cmp (key one) (key other)
+
+  abbrev pub one_key : A → A → Bool
+  one_key one other = is_eq (by_key one other)
+
+  total : IsTotalOrder by_key
+  total = record {
+    antisymm = λ x y. nat_list_cmp_total.antisymm (key x) (key y);
+    trans = λ x y z. nat_list_cmp_total.trans (key x) (key y) (key z);
+    congr = λ x y z. nat_list_cmp_total.congr (key x) (key y) (key z);
+  }
+
+  equiv : IsEquivalence one_key
+  equiv = record {
+    refl = λ x. sym (texts_ties (key x) (key x)) ∙ nat_list_eq_equiv.refl (key x);
+    symm = λ x y. sym (texts_ties (key x) (key y)) ∙ nat_list_eq_equiv.symm (key x) (key y) ∙ texts_ties (key y) (key x);
+    congr = λ x y z e. sym (texts_ties (key x) (key z)) ∙ nat_list_eq_equiv.congr (key x) (key y) (key z) (texts_ties (key x) (key y) ∙ e) ∙ texts_ties (key y) (key z);
+  }
+
+  pub keys_same : (x y : A) → one_key x y ≡ true → key x ≡ key y
+  keys_same x y e = (bytes_decides (key x) (key y)).0 (texts_ties (key x) (key y) ∙ e)
+
+  pub same_keys : (x y : A) → key x ≡ key y → one_key x y ≡ true
+  same_keys x y e = sym (texts_ties (key x) (key y)) ∙ (bytes_decides (key x) (key y)).1 e
+
+  -- what is strictly sorted gives rows in order
+  rows_behind : (f : A → Row) → ((x : A) → (f x).key ≡ key x) → (x : A) (xs : List A) → AllByRecursion (λ y. by_key x y ≡ Less) xs → AllByRecursion (ComesBefore (f x)) (map f xs)
+  rows_behind f keyed x [] less = tt
+  rows_behind f keyed x (y ∷ xs) less =
+      let before : slice_cmp nat_cmp (f x).key (f y).key ≡ Less = (λ i. slice_cmp nat_cmp (keyed x i) (keyed y i)) ∙ less.0 in
+      (inl (ap is_lt before), rows_behind f keyed x xs less.1)
+
+  strict_order : (f : A → Row) → ((x : A) → (f x).key ≡ key x) → (xs : List A) → IsStrictlySortedBy by_key xs → StandInOrder (map f xs)
+  strict_order f keyed [] up = tt
+  strict_order f keyed (x ∷ xs) up = (rows_behind f keyed x xs (sorted_head by_key x xs up), strict_order f keyed xs (sorted_tail by_key x xs up))
+
+  -- a list whose keys differ loses nothing
+  kept_from : (x : A) (xs : List A) → IsDistinct one_key (x ∷ xs) → dedup_from one_key x xs ≡ x ∷ xs
+  kept_from x [] apart = refl
+  kept_from x (y ∷ xs) apart =
+      let other : one_key y x ≡ false = equiv.symm y x ∙ (IsDistinct-head one_key x (y ∷ xs) apart).0 in
+      ap (λ b. cond b (dedup_from one_key x xs) (x ∷ dedup_from one_key y xs)) other ∙ ap (λ rest. x ∷ rest) (kept_from y xs (IsDistinct-tail one_key x (y ∷ xs) apart))
+
+  kept : (xs : List A) → IsDistinct one_key xs → dedup one_key xs ≡ xs
+  kept [] apart = refl
+  kept (x ∷ xs) apart = kept_from x xs apart
+
+  pub strictly : (xs : List A) → IsSorted by_key xs → IsDistinct one_key xs → IsStrictlySortedBy by_key xs
+  strictly xs up apart = subst (IsStrictlySortedBy by_key) (kept xs apart) (IsStrictlySortedBy-dedup total (λ x y. refl) xs up)
+
+  -- where those of one key give one row, no row is lost with a repeated key
+  dedup_keeps : (f : A → Row) → ((x y : A) → key x ≡ key y → f x ≡ f y) → (xs : List A) (row : Row) → Has (map f xs) row → Has (map f (dedup one_key xs)) row
+  dedup_keeps f agree xs row h =
+      let from = Has-from_map f xs row h in
+      let found = Any-dedup equiv xs from.0 (Contains-from_Has xs from.0 from.1) in
+      let there : Has (dedup one_key xs) found.1 = Has-from_Contains (dedup one_key xs) found.1 (found.0, found.2, found.3) in
+      let same : f found.1 ≡ row = sym (agree from.0 found.1 (keys_same from.0 found.1 found.4)) ∙ from.2 in
+      subst (Has (map f (dedup one_key xs))) same (Has-map f (dedup one_key xs) found.1 there)
+
+  dedup_has : (xs : List A) (x : A) → Has (dedup one_key xs) x → Has xs x
+  dedup_has xs x h = each_has (Has xs) (dedup one_key xs) x (All-dedup one_key (Has xs) xs (All-Has xs)) h
+
+-- ---- rows with keys of their own
+
+no_such : (row : Row) (rows : List Row) → (Has (map (λ (r : Row). r.key) rows) row.key → ⊥) → AllByRecursion (λ other. one_key (λ (r : Row). r.key) row other ≡ false) rows
+no_such row [] none = tt
+no_such row (other ∷ rows) none = (
+  false_unless (one_key (λ (r : Row). r.key) row other) (λ e. none (inl (sym (keys_same (λ (r : Row). r.key) row other e)))),
+  no_such row rows (λ h. none (inr h)),
 )
 
--- sorted rows without those that repeat a key
-pub are_ordered : (given sorted made : List Row) → IsPermutation given sorted → IsSorted row_cmp sorted → made ≡ dedup same_key sorted
-    → AgreeByKey given → AreOrdered made given
-are_ordered given sorted made moved up is agree =
-    let back = moved_has given sorted moved in
-    let forth = moved_has sorted given (IsPermutation-sym given sorted moved) in
-    let agrees : AgreeByKey sorted = λ one other h k same. agree one other (back one h) (back other k) same in
-    let order : StandInOrder (dedup same_key sorted) = strict_order (dedup same_key sorted) (IsStrictlySortedBy-dedup row_total (λ x y. texts_ties x.key y.key) sorted up) in
+own_distinct : (rows : List Row) → HaveOwnKeys rows → IsDistinct (one_key (λ (r : Row). r.key)) rows
+unfolding IsDistinct
+own_distinct [] own = tt
+own_distinct (row ∷ rows) own = IsDistinct-cons (one_key (λ (r : Row). r.key)) row rows (no_such row rows own.0) (own_distinct rows own.1)
+
+map_itself : (rows : List Row) → map (λ row. row) rows ≡ rows
+map_itself [] = refl
+map_itself (row ∷ rows) = ap (λ rest. row ∷ rest) (map_itself rows)
+
+pub sorted_rows : (given sorted made : List Row) → IsPermutation given sorted → IsSorted (by_key (λ (r : Row). r.key)) sorted → made ≡ sorted → HaveOwnKeys given → AreOrdered made given
+sorted_rows given sorted made moved up is own =
+    let key = λ (r : Row). r.key in
+    let apart : IsDistinct (one_key key) sorted = IsDistinct-IsPermutation (one_key key) (λ x y. (equiv key).symm x y) given sorted moved (own_distinct given own) in
+    let order : StandInOrder sorted = subst StandInOrder (map_itself sorted) (strict_order key (λ row. row) (λ row. refl) sorted (strictly key sorted up apart)) in
     record {
       order = subst StandInOrder (sym is) order;
-      same = λ row. (
-        λ h. back row (each_has (Has sorted) (dedup same_key sorted) row (All-dedup same_key (Has sorted) sorted (All-Has sorted)) (subst (λ rows. Has rows row) is h)),
-        λ h. subst (λ rows. Has rows row) (sym is) (dedup_keeps sorted agrees row (forth row h)),
-      );
+      same = λ row. subst (λ (rs : List Row). Has rs row ↔ Has given row) (sym is) (moved_same given sorted moved row);
     }
+
+-- ---- the rows of statements
+
+-- rows of one key are one: they have one time and one cell
+statement_agrees : (order turned : Order) (kind : Kind) (time : ℕ) (one other : Ids) → key_bytes order one ≡ key_bytes order other
+    → statement_row turned kind time one ≡ statement_row turned kind time other
+statement_agrees order turned kind time one other same = λ i. record { key = key_bytes-turned order turned one other same i; time = time; cell = cell_of kind }
+
+-- ids that were sorted in the order of subjects, each once
+pub record AreOnce (given once : List Ids) : Type 0 where
+  pub sorted : List Ids
+  pub moved : IsPermutation given sorted
+  pub up : IsSorted (key_cmp Spo) sorted
+  pub once_is : once ≡ dedup (one_key (key_bytes Spo)) sorted
+
+once_strict : (given once : List Ids) → AreOnce given once → IsStrictlySortedBy (by_key (key_bytes Spo)) once
+once_strict given once are =
+    subst (IsStrictlySortedBy (by_key (key_bytes Spo))) (sym are.once_is) (IsStrictlySortedBy-dedup (total (key_bytes Spo)) (λ x y. refl) are.sorted are.up)
+
+-- they give the rows of all
+once_rows : (order : Order) (kind : Kind) (time : ℕ) (given once : List Ids) → AreOnce given once → (row : Row)
+    → (Has (map (statement_row order kind time) once) row ↔ Has (map (statement_row order kind time) given) row)
+once_rows order kind time given once are row =
+    let f = statement_row order kind time in
+    let key = key_bytes Spo in
+    let all = dedup (one_key key) are.sorted in
+    subst (λ (ids : List Ids). Has (map f ids) row ↔ Has (map f given) row) (sym are.once_is) (
+      λ h. map_same f are.sorted given (moved_has given are.sorted are.moved) row (map_same f all are.sorted (dedup_has key are.sorted) row h),
+      λ h. dedup_keeps key f (statement_agrees Spo order kind time) are.sorted row
+          (map_same f given are.sorted (moved_has are.sorted given (IsPermutation-sym given are.sorted are.moved)) row h),
+    )
+
+pub first_rows : (kind : Kind) (time : ℕ) (given once : List Ids) (made : List Row) → AreOnce given once → made ≡ map (statement_row Spo kind time) once
+    → AreOrdered made (map (statement_row Spo kind time) given)
+first_rows kind time given once made are is = subst (λ (rs : List Row). AreOrdered rs (map (statement_row Spo kind time) given)) (sym is) (record {
+  order = strict_order (key_bytes Spo) (statement_row Spo kind time) (λ ids. refl) once (once_strict given once are);
+  same = once_rows Spo kind time given once are;
+})
+
+-- ids that differ in one order do so in each
+turn_apart : (order turned : Order) (one other : Ids) → one_key (key_bytes order) one other ≡ false → one_key (key_bytes turned) one other ≡ false
+turn_apart order turned one other apart =
+    false_unless (one_key (key_bytes turned) one other)
+    (λ e. false≢true (sym apart ∙ same_keys (key_bytes order) one other (key_bytes-turned turned order one other (keys_same (key_bytes turned) one other e))))
+
+each_turned : (order turned : Order) (one : Ids) (ids : List Ids) → AllByRecursion (λ other. one_key (key_bytes order) one other ≡ false) ids
+    → AllByRecursion (λ other. one_key (key_bytes turned) one other ≡ false) ids
+each_turned order turned one [] apart = tt
+each_turned order turned one (other ∷ ids) apart = (turn_apart order turned one other apart.0, each_turned order turned one ids apart.1)
+
+distinct_turned : (order turned : Order) (ids : List Ids) → IsDistinct (one_key (key_bytes order)) ids → IsDistinct (one_key (key_bytes turned)) ids
+unfolding IsDistinct
+distinct_turned order turned [] apart = tt
+distinct_turned order turned (one ∷ ids) apart =
+    IsDistinct-cons (one_key (key_bytes turned)) one ids (each_turned order turned one ids (IsDistinct-head (one_key (key_bytes order)) one ids apart))
+    (distinct_turned order turned ids (IsDistinct-tail (one_key (key_bytes order)) one ids apart))
+
+-- and sorted in another order they give its rows
+pub next_rows : (order : Order) (kind : Kind) (time : ℕ) (given once sorted : List Ids) (made : List Row) → AreOnce given once → IsPermutation once sorted → IsSorted (key_cmp order) sorted
+    → made ≡ map (statement_row order kind time) sorted → AreOrdered made (map (statement_row order kind time) given)
+next_rows order kind time given once sorted made are moved up is =
+    let f = statement_row order kind time in
+    let spo = one_key (key_bytes Spo) in
+    let apart : IsDistinct spo sorted = IsDistinct-IsPermutation spo (λ x y. (equiv (key_bytes Spo)).symm x y) once sorted moved
+    (IsDistinct-from_sorted (by_key (key_bytes Spo)) once (once_strict given once are)) in
+    let strict = strictly (key_bytes order) sorted up (distinct_turned Spo order sorted apart) in
+    subst (λ (rs : List Row). AreOrdered rs (map f given)) (sym is) (record {
+      order = strict_order (key_bytes order) f (λ ids. refl) sorted strict;
+      same = λ row. (
+        λ h. (once_rows order kind time given once are row).0 (map_same f sorted once (moved_has once sorted moved) row h),
+        λ h. map_same f once sorted (moved_has sorted once (IsPermutation-sym once sorted moved)) row ((once_rows order kind time given once are row).1 h),
+      );
+    })

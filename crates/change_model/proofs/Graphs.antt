@@ -3,7 +3,7 @@ use Rattle.std.proofs.Common.{◌≡◌, ℕ, zero, suc, ◌≤◌, ◌<◌, ◌
 use Rattle.std.specs.List.{slice_get}
 use Rattle.term_core.specs.declared.term.Term.{Term}
 use Rattle.term_core.specs.declared.statement.Statement.{Statement}
-use Rattle.term_core.specs.Lists.{Has}
+use Rattle.base_core.specs.Lists.{Has}
 use Rattle.term_core.specs.Term.{IsStatement}
 use Rattle.triple_keys.specs.declared.key.Ids.{Ids}
 use Rattle.change_model.specs.declared.history.Kind.{Kind}

@@ -1,3 +1,4 @@
+pub mod AdjacentWindows
 mod EntryExact
 mod EntryGiven
 mod EntryHistory
@@ -6,11 +7,17 @@ mod EntryNumbering
 mod EntryOrdered
 mod EntryRowLists
 pub mod Graphs
+pub mod JoinedWindows
 pub mod Lexicons
 pub mod Members
 pub mod Naming
+pub mod NarrowedWindows
 pub mod Newest
+pub mod PrunedWindows
 pub mod Rows
 pub mod Shown
 pub mod Terms
+pub mod UnprunedWindows
 mod VocabularyTerms
+pub mod WindowAnswers
+pub mod WindowSteps

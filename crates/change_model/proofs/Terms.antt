@@ -1,44 +1,19 @@
 -- Equality of terms and statements as a test, and what binding the labels of a change keeps.
-use Rattle.std.proofs.Common.{◌≡◌, ℕ, ◌<◌, ◌^◌, Bool, true, false, List, [], ◌∷◌, ◌⊎◌, inl, inr, refl, sym, ◌∙◌, ap, subst, Decides}
+use Rattle.std.proofs.Common.{◌≡◌, ℕ, ◌<◌, ◌^◌, Bool, true, false, List, [], ◌∷◌, ◌⊎◌, inl, inr, refl, sym, ap, subst, Decides}
 use Rattle.std.proofs.lemmas.Bool.{false≢true}
-use Rattle.std.proofs.lemmas.Bool.Decides.{Decides-eqb, Decides-and, Decides-or, Decides-like}
-use Rattle.std.proofs.lemmas.Slice.Eq.{bytes_eq-Decides}
+use Rattle.std.proofs.lemmas.Bool.Decides.{Decides-or, Decides-like}
 use Rattle.std.specs.List.{list_any}
 use Rattle.term_core.specs.declared.term.Term.{Term}
 use Rattle.term_core.specs.declared.term.Term.TheVariants.{Iri, Literal, Tagged, Blank}
 use Rattle.term_core.specs.declared.statement.Statement.{Statement}
-use Rattle.term_core.specs.Lists.{Has}
+use Rattle.base_core.specs.Lists.{Has}
 use Rattle.term_core.specs.Term.{IsTerm, MayBeSubject, MayBePredicate, IsStatement}
 use Rattle.change_model.specs.History.{bound_term, bound_at}
 use Rattle.change_model.specs.Lexicon.{same_term, terms_of}
+use Rattle.change_model.specs.TermKeys.{same_term-Decides}
 
 never : {P : Type 0} → (P → ⊥) → Decides false P
 never none = (λ e. absurd (false≢true e), λ p. absurd (none p))
-
--- the test tells equality
-pub same_term-Decides : (a b : Term) → Decides (same_term a b) (a ≡ b)
-same_term-Decides (Iri iri) (Iri other) = Decides-like _ (λ e. ap Iri e) (λ e. cc) (bytes_eq-Decides iri other)
-same_term-Decides (Iri iri) (Literal form datatype) = never (λ e. cc)
-same_term-Decides (Iri iri) (Tagged form tag) = never (λ e. cc)
-same_term-Decides (Iri iri) (Blank at label) = never (λ e. cc)
-same_term-Decides (Literal form datatype) (Iri iri) = never (λ e. cc)
-same_term-Decides (Literal form datatype) (Literal text other) =
-    Decides-like _ (λ e. ap (λ f. Literal f datatype) e.0 ∙ ap (Literal text) e.1) (λ e. (cc, cc))
-    (Decides-and _ _ (bytes_eq-Decides form text) (bytes_eq-Decides datatype other))
-same_term-Decides (Literal form datatype) (Tagged text tag) = never (λ e. cc)
-same_term-Decides (Literal form datatype) (Blank at label) = never (λ e. cc)
-same_term-Decides (Tagged form tag) (Iri iri) = never (λ e. cc)
-same_term-Decides (Tagged form tag) (Literal text datatype) = never (λ e. cc)
-same_term-Decides (Tagged form tag) (Tagged text other) =
-    Decides-like _ (λ e. ap (λ f. Tagged f tag) e.0 ∙ ap (Tagged text) e.1) (λ e. (cc, cc))
-    (Decides-and _ _ (bytes_eq-Decides form text) (bytes_eq-Decides tag other))
-same_term-Decides (Tagged form tag) (Blank at label) = never (λ e. cc)
-same_term-Decides (Blank at label) (Iri iri) = never (λ e. cc)
-same_term-Decides (Blank at label) (Literal form datatype) = never (λ e. cc)
-same_term-Decides (Blank at label) (Tagged form tag) = never (λ e. cc)
-same_term-Decides (Blank at label) (Blank time other) =
-    Decides-like _ (λ e. ap (λ t. Blank t label) e.0 ∙ ap (Blank time) e.1) (λ e. (cc, cc))
-    (Decides-and _ _ (Decides-eqb at time) (bytes_eq-Decides label other))
 
 told_by : {P : Type 0} → (t : Bool) → Decides t P → P ⊎ (P → ⊥)
 told_by true d = inl (d.0 refl)

@@ -1,35 +1,21 @@
--- How a list of known terms grows, and what the map of their places says then.
-use Rattle.std.proofs.Common.{◌≡◌, ℕ, zero, suc, Bool, true, false, cond, List, [], ◌∷◌, ◌++◌, length, Option, Some, None, inl, inr, refl, sym, ◌∙◌, ap, subst, rules, ◌+◌, ◌<◌, take, get_or}
+-- How a list of known terms grows, and where its terms stand then.
+use Rattle.std.proofs.Common.{◌≡◌, ℕ, zero, suc, Bool, true, false, List, [], ◌∷◌, ◌++◌, map, length, Some, refl, sym, ◌∙◌, ap, subst, ◌+◌, ◌<◌, ◌≤◌, take, get_or, append_assoc}
 use Rattle.std.specs.Prelude.{if◌then◌else◌}
 use Rattle.std.specs.List.{slice_get, list_any}
-use Rattle.std.specs.Ordering.{is_eq}
-use Rattle.std.specs.BTreeMap.{BTreeMap, get, is_at}
-use Rattle.std.specs.Cmp.{tied_itself, Equal-is}
-use Rattle.std.specs.Map.{lookup}
-use Rattle.std.proofs.lemmas.Bool.{false≢true}
-use Rattle.std.proofs.lemmas.List.{take_more}
+use Rattle.std.proofs.lemmas.List.{take_more, take_all, append-nil}
 use Rattle.std.proofs.lemmas.List.Concat.{flat_map-append}
 use Rattle.std.proofs.lemmas.Option.{none-some}
-use Rattle.std.proofs.lemmas.Map.Lookups.{CmpEqualImpliesEq}
 use Rattle.term_core.specs.declared.term.Term.{Term}
 use Rattle.term_core.specs.declared.statement.Statement.{Statement}
-use Rattle.term_core.specs.Lists.{Has}
-use Rattle.term_core.specs.contracts.term.TermOrd.TheImpl as term_ord
-use Rattle.term_core.specs.contracts.term.TermOrd.TheImpl.Laws.{matches_eq-law, total-law}
-use Rattle.term_core.specs.contracts.term.TermPartialEq.TheImpl as term_eq
+use Rattle.term_core.specs.Spelling.{spelling}
+use Rattle.base_core.specs.Lists.{Has}
+use Rattle.change_model.specs.declared.vocabulary.Vocabulary.{Vocabulary}
 use Rattle.change_model.specs.declared.vocabulary.Places.{Places}
-use Rattle.change_model.specs.Entries.{IsPlaced, ArePlaced}
+use Rattle.change_model.specs.Entries.{IsPlaced, ArePlaced, IsVocabularyOf}
 use Rattle.change_model.specs.Lexicon.{same_term, with_term, with_terms, terms_of}
-use Rattle.change_model.specs.Vocabulary.{StandsAt, IsPlaceOf, Knows}
-use Rattle.change_model.proofs.Members.{Has-append, at_place, slice_get-last}
+use Rattle.change_model.specs.TermKeys.{same_term-Decides}
+use Rattle.change_model.specs.Vocabulary.{StandsAt}
 use Rattle.change_model.proofs.Terms.{list_any-Decides}
-
--- the derived order of terms ties only where they are the same
-equal_term : (x y : Term) → (term_eq.ghosts).eq x y ≡ true → x ≡ y
-equal_term x y e = search rules
-
-pub exact_term : CmpEqualImpliesEq (term_ord.ghosts).cmp
-exact_term x y e = equal_term x y (matches_eq-law x y ∙ ap is_eq e)
 
 pub false_unless : (b : Bool) → (b ≡ true → ⊥) → b ≡ false
 false_unless true never = absurd (never refl)
@@ -65,56 +51,9 @@ pub with_terms-append : (known xs ys : List Term) → with_terms known (xs ++ ys
 with_terms-append known [] ys = refl
 with_terms-append known (x ∷ xs) ys = with_terms-append (with_term known x) xs ys
 
--- the map of no terms
-pub Knows-none : (places : BTreeMap Term ℕ) → places.entries ≡ [] → Knows [] places
-Knows-none places none term = subst (IsPlaceOf [] term) (sym (ap (λ entries. lookup (is_at ((term_ord.ghosts).cmp term)) entries) none)) (λ h. h)
-
--- a term that the map knows stands there, and nothing changes
-pub known_already : (known : List Term) (places : BTreeMap Term ℕ) (term : Term) (place : ℕ) → Knows known places
-    → Some place ≡ get (term_ord.ghosts).cmp places term → known ≡ with_term known term
-known_already known places term place knows found =
-    let at : StandsAt known term place = subst (IsPlaceOf known term) (sym found) (knows term) in
-    sym (with_term-known known term (at_place known place term at))
-
-other_place : (old : List Term) (term q : Term) (found : Option ℕ) → (term ≡ q → ⊥) → IsPlaceOf old q found → IsPlaceOf (old ++ (term ∷ [])) q found
-other_place old term q None apart none = λ h. elim ((Has-append old (term ∷ []) q).0 h) [ inl before ↦ none before | inr last ↦ elim last [ inl same ↦ apart same | inr nothing ↦ nothing ] ]
-other_place old term q (Some place) apart at = grown_place old (term ∷ []) place q at
-
-place_by : (old : List Term) (term q : Term) (found : Option ℕ) (b : Bool) → is_at ((term_ord.ghosts).cmp term) q ≡ b → IsPlaceOf old q found
-    → IsPlaceOf (old ++ (term ∷ [])) q (cond b (Some (length old)) found)
-place_by old term q found true e is =
-    subst (λ (x : Term). slice_get (old ++ (term ∷ [])) (length old) ≡ Some x) (exact_term term q ((Equal-is _).0 e)) (slice_get-last old term)
-place_by old term q found false e is =
-    other_place old term q found (λ same. false≢true (sym e ∙ subst (λ (x : Term). is_at ((term_ord.ghosts).cmp term) x ≡ true) same ((Equal-is _).1 (tied_itself total-law term)))) is
-
--- one more term
-Knows-more : (old : List Term) (before after : BTreeMap Term ℕ) (term : Term) → Knows old before
-    → ((q : Term) → get (term_ord.ghosts).cmp after q ≡ cond (is_at ((term_ord.ghosts).cmp term) q) (Some (length old)) (get (term_ord.ghosts).cmp before q))
-    → Knows (old ++ (term ∷ [])) after
-Knows-more old before after term knows told q =
-    subst (IsPlaceOf (old ++ (term ∷ [])) q) (sym (told q)) (place_by old term q _ (is_at ((term_ord.ghosts).cmp term) q) refl (knows q))
-
--- a term that the map doesn't know is new, and gets the next place
-pub record IsNoted (old new : List Term) (after : BTreeMap Term ℕ) (term : Term) (place : ℕ) : Type 0 where
-  pub knows : Knows new after
-  pub terms : new ≡ with_term old term
-  pub at : StandsAt new term place
-
-pub noted : (old new : List Term) (before after : BTreeMap Term ℕ) (term key copy : Term) (place : ℕ) → Knows old before
-    → None ≡ get (term_ord.ghosts).cmp before term → key ≡ term → copy ≡ term → new ≡ old ++ (copy ∷ []) → place ≡ length old
-    → ((q : Term) → get (term_ord.ghosts).cmp after q ≡ cond (is_at ((term_ord.ghosts).cmp key) q) (Some place) (get (term_ord.ghosts).cmp before q))
-    → IsNoted old new after term place
-noted old new before after term key copy place knows absent same copied grown at told =
-    let fresh : Has old term → ⊥ = subst (IsPlaceOf old term) (sym absent) (knows term) in
-    let is : new ≡ old ++ (term ∷ []) = grown ∙ ap (λ t. old ++ (t ∷ [])) copied in
-    let tells : (q : Term) → get (term_ord.ghosts).cmp after q ≡ cond (is_at ((term_ord.ghosts).cmp term) q) (Some (length old)) (get (term_ord.ghosts).cmp before q)
-    = λ q. told q ∙ ap (λ t. cond (is_at ((term_ord.ghosts).cmp t) q) (Some place) (get (term_ord.ghosts).cmp before q)) same
-    ∙ ap (λ p. cond (is_at ((term_ord.ghosts).cmp term) q) (Some p) (get (term_ord.ghosts).cmp before q)) at in
-    record {
-      knows = subst (λ (ts : List Term). Knows ts after) (sym is) (Knows-more old before after term knows tells);
-      terms = is ∙ sym (with_term-new old term fresh);
-      at = subst (λ (ts : List Term). StandsAt ts term place) (sym is) (subst (StandsAt (old ++ (term ∷ [])) term) (sym at) (slice_get-last old term));
-    }
+-- what the set finds in place of a term is the term
+pub found_is : (terms : List Term) (term : Term) (place : ℕ) → (k : Term) × (slice_get terms place ≡ Some k) × (same_term term k ≡ true) → StandsAt terms term place
+found_is terms term place found = found.1 ∙ ap Some (sym ((same_term-Decides term found.0).0 found.2))
 
 -- places stay right as the terms grow
 pub ArePlaced-grown : (known more : List Term) (statements : List Statement) (places : List Places)
@@ -160,3 +99,25 @@ so_far_more old new statements i places all statement place within is terms plac
       terms = grown ∙ ap (λ ts. with_terms ts three) terms ∙ sym (with_terms-append [] front three) ∙ ap (with_terms []) (sym whole);
       placed = subst (λ (ps : List Places). ArePlaced new (take (i + 1) statements) ps) (sym pushed) (subst (λ (ss : List Statement). ArePlaced new ss (places ++ (place ∷ []))) (sym more) all_placed);
     }
+
+-- all statements are done
+pub vocabulary_made : (statements items : List Statement) (i : ℕ) (known : List Term) (placed : List Places) (vocabulary : Vocabulary) → items ≡ statements → length items ≤ i
+    → known ≡ with_terms [] (terms_of (take i items)) → ArePlaced known (take i items) placed
+    → vocabulary.terms ≡ known → vocabulary.spellings ≡ map spelling vocabulary.terms → vocabulary.places ≡ placed → IsVocabularyOf statements vocabulary
+vocabulary_made statements items i known placed vocabulary same end known_is are terms spellings places =
+    let whole : take i items ≡ statements = take_all i items end ∙ same in
+    record {
+      terms = terms ∙ known_is ∙ ap (λ ss. with_terms [] (terms_of ss)) whole;
+      spellings = spellings;
+      places = subst (λ (ts : List Term). ArePlaced ts statements vocabulary.places) (sym terms)
+          (subst (λ (ss : List Statement). ArePlaced known ss vocabulary.places) whole (subst (ArePlaced known (take i items)) (sym places) are));
+    }
+
+-- one more term was copied
+pub copied_more : (copies new all : List Term) (copy first : Term) (left rest : List Term) → copies ++ left ≡ all → left ≡ first ∷ rest → copy ≡ first → new ≡ copies ++ (copy ∷ [])
+    → new ++ rest ≡ all
+copied_more copies new all copy first left rest so_far is same pushed =
+    ap (λ ts. ts ++ rest) pushed ∙ append_assoc copies (copy ∷ []) rest ∙ ap (λ t. copies ++ (t ∷ rest)) same ∙ ap (λ ts. copies ++ ts) (sym is) ∙ so_far
+
+pub copied_all : (copies all left : List Term) → copies ++ left ≡ all → left ≡ [] → copies ≡ all
+copied_all copies all left so_far none = sym (append-nil copies) ∙ ap (λ ts. copies ++ ts) (sym none) ∙ so_far

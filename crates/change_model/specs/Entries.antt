@@ -1,13 +1,14 @@
 -- The rows that one change gives, and what is known of its terms before it is committed.
-use Rattle.std.specs.Prelude.{◌≡◌, ◌↔◌, ℕ, List, [], ◌∷◌, length, Option, Some, None}
+use Rattle.std.specs.Prelude.{◌≡◌, ◌↔◌, ℕ, List, [], ◌∷◌, map, length, Option, Some, None}
 use Rattle.std.specs.List.{slice_get}
 use Rattle.term_core.specs.declared.term.Term.{Term}
 use Rattle.term_core.specs.declared.statement.Statement.{Statement}
+use Rattle.term_core.specs.Spelling.{spelling}
 use Rattle.window_core.specs.declared.rows.Index.{Index}
 use Rattle.window_core.specs.declared.rows.Index.TheVariants.{T2i, I2t, Spo, Pos, Osp}
 use Rattle.window_core.specs.declared.rows.Row.{Row}
 use Rattle.window_core.specs.Rows.{StandInOrder}
-use Rattle.term_core.specs.Lists.{Has}
+use Rattle.base_core.specs.Lists.{Has}
 use Rattle.change_model.specs.declared.entry.Entry.{Entry}
 use Rattle.change_model.specs.declared.entry.Resolved.{Resolved}
 use Rattle.change_model.specs.declared.vocabulary.Places.{Places}
@@ -54,9 +55,10 @@ ArePlaced terms [] (places ∷ more) = ⊥
 ArePlaced terms (statement ∷ statements) [] = ⊥
 ArePlaced terms (statement ∷ statements) (places ∷ more) = IsPlaced terms statement places × ArePlaced terms statements more
 
--- the distinct terms of the statements by first appearance, and where each statement's terms stand there
+-- the distinct terms of the statements by first appearance, the spelling of each, and where each statement's terms stand there
 pub record IsVocabularyOf (statements : List Statement) (vocabulary : Vocabulary) : Type 0 where
   pub terms : vocabulary.terms ≡ with_terms [] (terms_of statements)
+  pub spellings : vocabulary.spellings ≡ map spelling vocabulary.terms
   pub places : ArePlaced vocabulary.terms statements vocabulary.places
 
 -- the terms of a change, its labels unbound, and their ids after this history

@@ -5,7 +5,7 @@ use Rattle.term_core.specs.declared.term.Term.{Term}
 use Rattle.term_core.specs.declared.statement.Statement.{Statement}
 use Rattle.term_core.specs.Spelling.{spelling}
 use Rattle.term_core.specs.Term.{IsTerm, IsStatement}
-use Rattle.fed_bytes.specs.Numbers.{number_bytes}
+use Rattle.base_core.specs.Numbers.{number_bytes}
 use Rattle.triple_keys.specs.declared.key.Ids.{Ids}
 use Rattle.triple_keys.specs.declared.order.Order.{Order}
 use Rattle.triple_keys.specs.declared.order.Order.TheVariants as order

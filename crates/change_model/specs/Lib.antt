@@ -5,4 +5,7 @@ pub mod IndexRows
 pub mod Laws
 pub mod Lexicon
 pub mod Numbering
+pub mod TermKeys
 pub mod Vocabulary
+pub mod WindowLaws
+pub mod Windows

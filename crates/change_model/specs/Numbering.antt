@@ -1,14 +1,18 @@
--- How the terms of a change get their ids, by the terms that were known before it.
-use Rattle.std.specs.Prelude.{◌≡◌, ◌↔◌, ℕ, suc, ◌<◌, List, [], ◌∷◌, ◌++◌, length, Option, Some, None, slice_index_or}
+-- Private: how the terms of a change get their ids, by the terms that were known before it.
+use Rattle.std.specs.Prelude.{◌≡◌, ℕ, suc, List, [], ◌∷◌, ◌++◌, map, length, Option, Some, None, slice_index_or}
+use Rattle.std.specs.HashMap.{HashMap, get}
 use Rattle.std.specs.List.{slice_get, AllZip, AllByRecursion}
 use Rattle.term_core.specs.declared.term.Term.{Term}
 use Rattle.term_core.specs.declared.term.Term.TheVariants.{Iri, Literal, Tagged, Blank}
-use Rattle.term_core.specs.Lists.{Has}
+use Rattle.base_core.specs.Lists.{Has, AreDistinct}
 use Rattle.term_core.specs.Spelling.{spelling}
 use Rattle.term_core.specs.Term.{IsTerm}
 use Rattle.triple_keys.specs.declared.key.Ids.{Ids}
+use Rattle.change_model.specs.declared.numbering.NewTerm.{NewTerm}
 use Rattle.change_model.specs.declared.vocabulary.Places.{Places}
+use Rattle.change_model.specs.declared.vocabulary.Vocabulary.{Vocabulary}
 use Rattle.change_model.specs.History.{bound_term}
+use Rattle.change_model.specs.Lexicon.{same_text, with_term}
 
 -- the term has the id among the known terms: its place there, from 1
 abbrev pub HasIdIn : List Term → Term → ℕ → Type 0
@@ -49,19 +53,50 @@ AreIdsIn known terms ids = AllZip (IsIdIn known) terms ids
 abbrev pub AreIdsAt : ℕ → List Term → List Term → List (Option ℕ) → Type 0
 AreIdsAt time known terms ids = AllZip (λ term id. IsIdIn known (bound_term time term) id) terms ids
 
--- the spelling of a known term that is not among the first ones, and its id
-pub record IsBrought (base known : List Term) (key : List ℕ) (id : ℕ) : Type 0 where
-  pub term : Term
-  pub has : HasIdIn known term id
-  pub new : length base < id
-  pub spelled : key ≡ spelling term
+-- the terms with the ids that follow this number, by their spellings
+abbrev pub new_terms : ℕ → List Term → List NewTerm
+new_terms number [] = []
+new_terms number (term ∷ terms) = record { key = spelling term; id = suc number } ∷ new_terms (suc number) terms
 
--- the known terms begin with the first ones, and those behind these stand by their spellings with their ids
-pub record IsNumbering (base known : List Term) (number : ℕ) (entries : List (List ℕ × ℕ)) : Type 0 where
+-- the known terms, so many, begin with the first ones, and those behind these were brought
+pub record IsNumbering (base known : List Term) (number : ℕ) (brought : List NewTerm) : Type 0 where
   pub grown : (new : List Term) × (known ≡ base ++ new)
   pub rules : AllByRecursion IsTerm known
   pub count : number ≡ length known
-  pub brought : (key : List ℕ) (id : ℕ) → Has entries (key, id) ↔ IsBrought base known key id
+  pub entries : brought ≡ new_terms (length base) grown.0
+
+-- the terms are distinct, and each has its spelling
+pub record AreSpelled (vocabulary : Vocabulary) : Type 0 where
+  pub apart : AreDistinct vocabulary.terms
+  pub spellings : vocabulary.spellings ≡ map spelling vocabulary.terms
+
+-- the term is no label
+abbrev pub IsUnlabelled : Term → Type 0
+IsUnlabelled (Iri iri) = Unit {0}
+IsUnlabelled (Literal form datatype) = Unit {0}
+IsUnlabelled (Tagged form tag) = Unit {0}
+IsUnlabelled (Blank at label) = ⊥
+
+-- A term that comes next, and its id among the first terms. It isn't among the known ones unless it is among the first, or
+-- bears a label, which others may bear too.
+pub record IsNext (base known : List Term) (time : ℕ) (term : Term) (id : Option ℕ) : Type 0 where
+  pub rules : IsTerm (bound_term time term)
+  pub id_is : IsIdIn base (bound_term time term) id
+  pub once : IsUnlabelled term → Has known term → Has base term
+
+-- the ids while they are given: a numbering of the known terms, and the ids of the time's nodes by their labels
+pub record IsGiving (base known : List Term) (time number : ℕ) (brought : List NewTerm) (nodes : List ℕ → Option ℕ) : Type 0 where
+  pub numbering : IsNumbering base known number brought
+  pub nodes_are : (label : List ℕ) → IsIdIn known (Blank time label) (nodes label)
+
+-- the term got its id, and is known now
+pub record IsGiven (base known : List Term) (time : ℕ) (term : Term) (id number : ℕ) (brought : List NewTerm) (nodes : List ℕ → Option ℕ) : Type 0 where
+  pub given : HasIdIn (with_term known (bound_term time term)) (bound_term time term) id
+  pub giving : IsGiving base (with_term known (bound_term time term)) time number brought nodes
+
+-- the ids of the labels
+abbrev pub nodes_of : {S : Type 0} → HashMap (List ℕ) ℕ S → List ℕ → Option ℕ
+nodes_of nodes label = get same_text nodes label
 
 abbrev pub three_ids : Option ℕ → Option ℕ → Option ℕ → Option Ids
 three_ids None predicate object = None

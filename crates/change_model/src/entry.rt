@@ -10,9 +10,8 @@ use crate::history::Change;
 use crate::index_rows::{id_rows, statement_rows, term_rows};
 use crate::numbering::{number_terms, statement_ids};
 use crate::vocabulary::Vocabulary;
+use base_core::{List, Want};
 use std::alloc::Global;
-use term_core::{List, Want};
-use triple_keys::Order;
 use window_core::Rows;
 
 /// A change with its terms, and the ids that these have at some time. A term without an id there has none yet.
@@ -49,9 +48,7 @@ pub fn entry_of(alloc: Global, resolved: &Resolved, terms: u64, time: u64) -> Re
     let kind = resolved.change.kind;
     let numbered = number_terms(alloc, resolved, terms, time)?;
     let ids = statement_ids(alloc, resolved.vocabulary.places.items(), &numbered.ids)?;
-    let spo = statement_rows(alloc, Order::Spo, kind, &ids, time)?;
-    let pos = statement_rows(alloc, Order::Pos, kind, &ids, time)?;
-    let osp = statement_rows(alloc, Order::Osp, kind, &ids, time)?;
+    let statements = statement_rows(alloc, kind, ids, time)?;
     let i2t = id_rows(alloc, &numbered.brought, time)?;
     let t2i = term_rows(alloc, numbered.brought, time)?;
     Ok(Entry {
@@ -59,8 +56,8 @@ pub fn entry_of(alloc: Global, resolved: &Resolved, terms: u64, time: u64) -> Re
         terms: numbered.count,
         t2i,
         i2t,
-        spo,
-        pos,
-        osp,
+        spo: statements.spo,
+        pos: statements.pos,
+        osp: statements.osp,
     })
 }

@@ -1,5 +1,6 @@
 //! Committed changes and where they came from.
-use term_core::{List, Statement};
+use base_core::List;
+use term_core::Statement;
 
 #[derive(Clone, Copy, Debug, PartialEq, Eq)]
 pub enum Kind {

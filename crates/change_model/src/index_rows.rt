@@ -1,60 +1,122 @@
 //! The rows of one time, in their order.
-ghost use Rattle.std.specs.Prelude.{◌≡◌, map, IfOk, List};
-ghost use Rattle.window_core.specs.declared.rows.Row.{Row as AnyRow};
-ghost use Rattle.fed_bytes.specs.Numbers.{number_bytes};
+ghost use Rattle.std.specs.Prelude.{◌≡◌, map, IfOk, OnOk};
+ghost use Rattle.std.specs.List.Sorted.{IsPermutation, IsSorted};
+ghost use Rattle.base_core.specs.Numbers.{number_bytes};
+ghost use Rattle.triple_keys.specs.declared.order.Order.TheVariants.{Spo, Pos, Osp};
 ghost use Rattle.change_model.specs.IndexRows.{cell_of};
-ghost use Rattle.change_model.specs.EntryRows.{AgreeByKey, AreOrdered, term_row, id_row, statement_row};
+ghost use Rattle.change_model.specs.EntryRows.{HaveOwnKeys, AreOrdered, key_cmp, term_row, id_row, statement_row};
 
 use crate::history::Kind;
-use fed_bytes::{Key, put_u64};
+use crate::numbering::NewTerm;
+use base_core::Want;
+use fed_bytes::Key;
 use std::alloc::Global;
-use std::collections::BTreeMap;
-use term_core::Want;
-use triple_keys::{Ids, Order, key_of};
+use triple_keys::{Ids, Order, compare, key_of};
 use window_core::{Cell, Row, Rows};
 
-/// The rows of the terms with these spellings and ids.
-pub(crate) fn term_rows(alloc: Global, terms: BTreeMap<Key, u64>, time: u64) -> Result<Rows, Want>
-    ensures { IfOk result (λ made. AgreeByKey (map (term_row time) terms.entries) →
-        AreOrdered made (map (term_row time) terms.entries)) }
+/// The rows of the terms that have new ids, by their spellings.
+pub(crate) fn term_rows(alloc: Global, terms: Vec<NewTerm>, time: u64) -> Result<Rows, Want>
+    ensures { IfOk result (λ made. HaveOwnKeys (map (term_row time) terms.items) → AreOrdered made (map (term_row time) terms.items)) }
 {
-    let mut rows = Vec::new(alloc);
-    'terms: for (key, id) in terms {
-        let cell = Cell::Value(number_key(alloc, id)?);
-        rows.push(Row { key, time, cell })?;
+    let mut rows = Vec::with_capacity(alloc, terms.len())?;
+    'terms: for term in terms {
+        rows.push(term_row(alloc, term, time)?)?;
     }
-    in_order(rows)
+    by_key(rows)
 }
 
-/// The rows of the ids of the terms with these spellings and ids.
-pub(crate) fn id_rows(alloc: Global, terms: &BTreeMap<Key, u64>, time: u64) -> Result<Rows, Want>
-    ensures { IfOk result (λ made. AgreeByKey (map (id_row time) terms.now.entries) →
-        AreOrdered made (map (id_row time) terms.now.entries)) }
+/// The rows by key. Each has a key of its own.
+fn by_key(mut rows: Vec<Row>) -> Result<Rows, Want>
+    ensures { IfOk result (λ made. HaveOwnKeys rows.items → AreOrdered made rows.items) }
 {
-    let mut rows = Vec::new(alloc);
-    'terms: for (spelling, id) in terms {
-        let key = number_key(alloc, *id)?;
-        let cell = Cell::Value(spelling.copy(alloc)?);
-        rows.push(Row { key, time, cell })?;
-    }
-    in_order(rows)
+    rows.sort_by(|one, other| one.key.cmp(&other.key))?;
+    Ok(Rows::of(rows))
 }
 
-/// The rows of statements with these ids, by their keys in one of the orders.
+fn term_row(alloc: Global, term: NewTerm, time: u64) -> Result<Row, Want>
+    ensures { IfOk result (λ row. row ≡ term_row time term) }
+{
+    let cell = Cell::Value(number_key(alloc, term.id)?);
+    Ok(Row {
+        key: term.key,
+        time,
+        cell,
+    })
+}
+
+/// The rows of the new ids, in the sequence of these.
+pub(crate) fn id_rows(alloc: Global, terms: &[NewTerm], time: u64) -> Result<Rows, Want>
+    ensures { IfOk result (λ made. made ≡ map (id_row time) terms.now) }
+{
+    let mut rows = Vec::with_capacity(alloc, terms.len())?;
+    'terms: for term in terms {
+        rows.push(id_row(alloc, term, time)?)?;
+    }
+    Ok(Rows::of(rows))
+}
+
+fn id_row(alloc: Global, term: &NewTerm, time: u64) -> Result<Row, Want>
+    ensures { IfOk result (λ row. row ≡ id_row time term.now) }
+{
+    let key = number_key(alloc, term.id)?;
+    let cell = Cell::Value(term.key.copy(alloc)?);
+    Ok(Row { key, time, cell })
+}
+
+/// The rows of the statements of a change in the three orders.
+#[derive(Drop)]
+pub(crate) struct StatementRows {
+    pub(crate) spo: Rows,
+    pub(crate) pos: Rows,
+    pub(crate) osp: Rows,
+}
+
+/// The rows of statements with these ids, by their keys in each of the orders.
 pub(crate) fn statement_rows(
+    alloc: Global,
+    kind: Kind,
+    statements: Vec<Ids>,
+    time: u64,
+) -> Result<StatementRows, Want>
+    ensures spo { IfOk result (λ made. AreOrdered made.spo (map (statement_row Spo kind time) statements.items)) }
+    ensures pos { IfOk result (λ made. AreOrdered made.pos (map (statement_row Pos kind time) statements.items)) }
+    ensures osp { IfOk result (λ made. AreOrdered made.osp (map (statement_row Osp kind time) statements.items)) }
+{
+    let mut ids = statements;
+    sort(Order::Spo, &mut ids)?;
+    ids.dedup_by(|one, other| compare(Order::Spo, one, other).is_eq());
+    let spo = rows_of(alloc, Order::Spo, kind, &ids, time)?;
+    sort(Order::Pos, &mut ids)?;
+    let pos = rows_of(alloc, Order::Pos, kind, &ids, time)?;
+    sort(Order::Osp, &mut ids)?;
+    let osp = rows_of(alloc, Order::Osp, kind, &ids, time)?;
+    Ok(StatementRows { spo, pos, osp })
+}
+
+/// Puts the ids in the sequence of their keys in the order.
+fn sort(order: Order, ids: &mut Vec<Ids>) -> Result<(), Want>
+    ensures moved { IsPermutation ids.old.items ids.new.items }
+    ensures sorted { OnOk result (IsSorted (key_cmp order) ids.new.items) }
+{
+    ids.sort_by(|one, other| compare(order, one, other))?;
+    Ok(())
+}
+
+/// The rows of the statements with these ids, in their sequence.
+fn rows_of(
     alloc: Global,
     order: Order,
     kind: Kind,
     statements: &[Ids],
     time: u64,
 ) -> Result<Rows, Want>
-    ensures { IfOk result (λ made. AreOrdered made (map (statement_row order kind time) statements.now)) }
+    ensures { IfOk result (λ made. made ≡ map (statement_row order kind time) statements.now) }
 {
-    let mut rows = Vec::new(alloc);
+    let mut rows = Vec::with_capacity(alloc, statements.len())?;
     'statements: for ids in statements {
         rows.push(statement_row(alloc, order, kind, ids, time)?)?;
     }
-    in_order(rows)
+    Ok(Rows::of(rows))
 }
 
 fn statement_row(alloc: Global, order: Order, kind: Kind, ids: &Ids, time: u64) -> Result<Row, Want>
@@ -77,16 +139,5 @@ fn cell_of(alloc: Global, kind: Kind) -> Cell
 fn number_key(alloc: Global, number: u64) -> Result<Key, Want>
     ensures { IfOk result (λ key. key ≡ number_bytes number) }
 {
-    let mut bytes = Vec::new(alloc);
-    put_u64(number, &mut bytes)?;
-    Ok(Key::from_bytes(bytes))
-}
-
-/// The rows by key, each key once. Rows of one key are equal.
-fn in_order(mut rows: Vec<Row>) -> Result<Rows, Want>
-    ensures { IfOk result (λ made. AgreeByKey rows.items → AreOrdered made rows.items) }
-{
-    rows.sort_by(|one, other| one.key.cmp(&other.key))?;
-    rows.dedup_by(|one, other| one.key == other.key);
-    Ok(Rows::of(rows))
+    Key::of(alloc, &number.to_be_bytes())
 }

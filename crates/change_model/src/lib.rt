@@ -4,14 +4,23 @@
 mod entry;
 mod history;
 mod index_rows;
+mod label;
 mod law;
 mod numbering;
+mod spelled;
+mod term_key;
 mod vocabulary;
+mod window_law;
 
 pub use entry::{Entry, Resolved, entry_of};
 pub use history::{Change, Committed, Kind, Origin};
 pub use law::{graph_law, id_law, lexicon_law};
 pub use vocabulary::{Places, Vocabulary, vocabulary_of};
+pub use window_law::{
+    adjacent_windows_law, empty_window_law, found_value_law, joined_window_law, last_among_law,
+    last_row_law, longer_history_law, narrowed_window_law, next_window_law, pruned_window_law,
+    raised_floor_law, unpruned_window_law, whole_window_law,
+};
 
 #[cfg(test)]
 mod tests;

@@ -1,22 +1,34 @@
 //! The ids of the terms and statements of a change once it is committed.
-ghost use Rattle.std.specs.Prelude.{◌≡◌, ◌↔◌, ◌<◌, ◌^◌, map, length, slice_index_or, IfOk, OnOk, IsTrue, None};
+ghost use Rattle.std.specs.Prelude.{◌≡◌, ℕ, ◌+◌, ◌++◌, ◌∷◌, [], map, slice_index_or, slice_get, option_copied, IfOk, IfSome, OnOk, MatchOption, None};
 ghost use Rattle.std.specs.List.{filter_map};
 ghost use Rattle.std.specs.Prelude.{List as Items};
 ghost use Rattle.term_core.specs.declared.term.Term.{Term as AnyTerm};
-ghost use Rattle.term_core.specs.Spelling.{spelling, HasShortForm};
+ghost use Rattle.term_core.specs.declared.term.Term.TheVariants.{Blank};
+ghost use Rattle.term_core.specs.Spelling.{spelling as spelling_of};
 ghost use Rattle.term_core.specs.Term.{IsTerm};
 ghost use Rattle.change_model.specs.History.{bound_term};
-ghost use Rattle.change_model.specs.Lexicon.{with_term, with_terms, brought};
-ghost use Rattle.change_model.specs.Numbering.{HasIdIn, IsIdIn, AreIdsIn, AreIdsAt, IsNumbering, IsBase, BindWell, known_id, known_ids, ids_at};
+ghost use Rattle.change_model.specs.Lexicon.{with_terms, brought};
+ghost use Rattle.change_model.specs.Numbering.{AreIdsIn, AreIdsAt, AreSpelled, IsNumbering, IsBase, IsUnlabelled, IsNext, IsGiving, IsGiven, BindWell, nodes_of, known_id, known_ids, ids_at};
 
 use crate::entry::Resolved;
 use crate::history::Kind;
-use crate::vocabulary::Places;
+use crate::label::Label;
+use crate::spelled::spelled;
+use crate::vocabulary::{Places, Vocabulary};
+use base_core::{Text, Want};
 use fed_bytes::Key;
 use std::alloc::Global;
-use std::collections::BTreeMap;
-use term_core::{Term, Want};
+use std::collections::HashMap;
+use term_core::Term;
 use triple_keys::Ids;
+
+/// A term that got a new id.
+#[derive(Debug, Drop)]
+pub(crate) struct NewTerm {
+    /// The spelling of the term, with its label bound.
+    pub(crate) key: Key,
+    pub(crate) id: u64,
+}
 
 /// The ids of the terms of a vocabulary.
 #[derive(Drop)]
@@ -25,8 +37,8 @@ pub(crate) struct Numbered {
     pub(crate) count: u64,
     /// For each term its id.
     pub(crate) ids: Vec<Option<u64>>,
-    /// The spellings of the terms that have a new id, with these.
-    pub(crate) brought: BTreeMap<Key, u64>,
+    /// The terms that have a new id, in the sequence of these.
+    pub(crate) brought: Vec<NewTerm>,
 }
 
 /// The ids of the terms of a change that is committed at this time, when `terms` ids were given out before. An Add gives
@@ -37,23 +49,23 @@ pub(crate) fn number_terms(
     terms: u64,
     time: u64,
 ) -> Result<Numbered, Want>
-    ensures ids { IfOk result (λ made. (base : Items AnyTerm) → IsBase base terms time →
+    ensures ids { IfOk result (λ made. (base : Items AnyTerm) → IsBase base terms time → AreSpelled resolved.now.vocabulary →
         BindWell time resolved.now.vocabulary.terms → AreIdsIn base resolved.now.vocabulary.terms resolved.now.ids →
         AreIdsAt time (with_terms base (brought resolved.now.change.kind (map (bound_term time) resolved.now.vocabulary.terms)))
         resolved.now.vocabulary.terms made.ids.items) }
-    ensures numbering { IfOk result (λ made. (base : Items AnyTerm) → IsBase base terms time →
+    ensures numbering { IfOk result (λ made. (base : Items AnyTerm) → IsBase base terms time → AreSpelled resolved.now.vocabulary →
         BindWell time resolved.now.vocabulary.terms → AreIdsIn base resolved.now.vocabulary.terms resolved.now.ids →
         IsNumbering base (with_terms base (brought resolved.now.change.kind (map (bound_term time) resolved.now.vocabulary.terms)))
-        made.count made.brought.entries) }
+        made.count made.brought.items) }
 {
-    let vocabulary = resolved.vocabulary.terms.items();
-    let known = known_ids(alloc, vocabulary, resolved.ids.items())?;
+    let vocabulary = &resolved.vocabulary;
+    let known = known_ids(alloc, vocabulary.terms.items(), resolved.ids.items())?;
     match resolved.change.kind {
         Kind::Add => give_ids(alloc, vocabulary, &known, terms, time),
         Kind::Remove => Ok(Numbered {
             count: terms,
             ids: known,
-            brought: BTreeMap::new(alloc),
+            brought: Vec::new(alloc),
         }),
     }
 }
@@ -62,7 +74,7 @@ pub(crate) fn number_terms(
 fn known_ids(alloc: Global, terms: &[Term], ids: &[Option<u64>]) -> Result<Vec<Option<u64>>, Want>
     ensures { IfOk result (λ known. known.items ≡ known_ids terms.now ids.now) }
 {
-    let mut known = Vec::new(alloc);
+    let mut known = Vec::with_capacity(alloc, terms.len())?;
     'terms: for (place, term) in terms.iter().enumerate() {
         known.push(known_id(term, id_at(ids, place)))?;
     }
@@ -82,103 +94,148 @@ fn known_id(term: &Term, id: Option<u64>) -> Option<u64>
 /// The ids of these terms, bound at the time, the next ones for those that have none.
 fn give_ids(
     alloc: Global,
-    terms: &[Term],
+    vocabulary: &Vocabulary,
     ids: &[Option<u64>],
     count: u64,
     time: u64,
 ) -> Result<Numbered, Want>
-    ensures ids { IfOk result (λ made. (base : Items AnyTerm) → IsBase base count time →
-        BindWell time terms.now → AreIdsAt time base terms.now ids.now →
-        AreIdsAt time (with_terms base (map (bound_term time) terms.now)) terms.now made.ids.items) }
-    ensures numbering { IfOk result (λ made. (base : Items AnyTerm) → IsBase base count time →
-        BindWell time terms.now → AreIdsAt time base terms.now ids.now →
-        IsNumbering base (with_terms base (map (bound_term time) terms.now)) made.count made.brought.entries) }
+    ensures ids { IfOk result (λ made. (base : Items AnyTerm) → IsBase base count time → AreSpelled vocabulary.now →
+        BindWell time vocabulary.now.terms → AreIdsAt time base vocabulary.now.terms ids.now →
+        AreIdsAt time (with_terms base (map (bound_term time) vocabulary.now.terms)) vocabulary.now.terms made.ids.items) }
+    ensures numbering { IfOk result (λ made. (base : Items AnyTerm) → IsBase base count time → AreSpelled vocabulary.now →
+        BindWell time vocabulary.now.terms → AreIdsAt time base vocabulary.now.terms ids.now →
+        IsNumbering base (with_terms base (map (bound_term time) vocabulary.now.terms)) made.count made.brought.items) }
 {
-    let mut numbered = Numbered {
+    let terms = vocabulary.terms.items();
+    let mut giving = Giving {
         count,
-        ids: Vec::new(alloc),
-        brought: BTreeMap::new(alloc),
+        brought: Vec::new(alloc),
+        nodes: HashMap::new(alloc),
     };
+    let mut given = Vec::with_capacity(alloc, terms.len())?;
     'terms: for (place, term) in terms.iter().enumerate() {
-        let id = numbered.id_for(alloc, term, id_at(ids, place), time)?;
-        numbered.ids.push(Some(id))?;
+        let spelling = key_at(vocabulary.spellings.items(), place);
+        let id = giving.id_for(alloc, term, spelling, id_at(ids, place), time)?;
+        given.push(Some(id))?;
     }
-    Ok(numbered)
+    Ok(Numbered {
+        count: giving.count,
+        ids: given,
+        brought: giving.brought,
+    })
 }
 
-impl Numbered {
+/// Ids as they are given to the terms of a change, one term after the other.
+#[derive(Drop)]
+struct Giving<'a> {
+    /// How many ids there are.
+    count: u64,
+    brought: Vec<NewTerm>,
+    /// The ids of the labels of the terms so far.
+    nodes: HashMap<Label<'a>, u64>,
+}
+
+impl<'a> Giving<'a> {
     /// The id of the term, bound at the time: the one that it has, or the next one.
     fn id_for(
         &mut self,
         alloc: Global,
-        term: &Term,
+        term: &'a Term,
+        spelling: Option<&Key>,
         id: Option<u64>,
         time: u64,
     ) -> Result<u64, Want>
-        ensures given { IfOk result (λ given. (base known : Items AnyTerm) →
-            IsTerm (bound_term time term.now) → IsIdIn base (bound_term time term.now) id →
-            IsNumbering base known self.old.count self.old.brought.entries →
-            HasIdIn (with_term known (bound_term time term.now)) (bound_term time term.now) given) }
-        ensures numbering { OnOk result ((base known : Items AnyTerm) →
-            IsTerm (bound_term time term.now) → IsIdIn base (bound_term time term.now) id →
-            IsNumbering base known self.old.count self.old.brought.entries →
-            IsNumbering base (with_term known (bound_term time term.now)) self.new.count self.new.brought.entries) }
-        ensures ids { self.new.ids.items ≡ self.old.ids.items }
+        ensures { IfOk result (λ given. (base known : Items AnyTerm) → IsNext base known time term.now id →
+            IfSome spelling.entry (λ key. key.now ≡ spelling_of term.now) →
+            IsGiving base known time self.old.count self.old.brought.items (nodes_of self.old.nodes) →
+            IsGiven base known time term.now given self.new.count self.new.brought.items (nodes_of self.new.nodes)) }
+    {
+        match label_of(term) {
+            Some(label) => self.node_id(alloc, label, time),
+            None => self.plain_id(alloc, term, spelling, id),
+        }
+    }
+
+    /// The id of a term without a label.
+    fn plain_id(
+        &mut self,
+        alloc: Global,
+        term: &Term,
+        spelling: Option<&Key>,
+        id: Option<u64>,
+    ) -> Result<u64, Want>
+        ensures { IfOk result (λ given. (base known : Items AnyTerm) (time : ℕ) → IsUnlabelled term.now →
+            IsNext base known time term.now id → IfSome spelling.entry (λ key. key.now ≡ spelling_of term.now) →
+            IsGiving base known time self.old.count self.old.brought.items (nodes_of self.old.nodes) →
+            IsGiven base known time term.now given self.new.count self.new.brought.items (nodes_of self.new.nodes)) }
     {
         if let Some(id) = id {
             return Ok(id);
         }
-        let key = spelled(alloc, term, time)?;
-        if let Some(id) = self.brought.get(&key) {
+        let key = spelling_for(alloc, term, spelling)?;
+        let id = self.next_id(key)?;
+        Ok(id)
+    }
+
+    /// The id of the label's node, the next one if the label is new.
+    fn node_id(&mut self, alloc: Global, label: &'a Text, time: u64) -> Result<u64, Want>
+        ensures { IfOk result (λ given. (base known : Items AnyTerm) → IsTerm (Blank time label.now) →
+            IsGiving base known time self.old.count self.old.brought.items (nodes_of self.old.nodes) →
+            IsGiven base known time (Blank time label.now) given self.new.count self.new.brought.items (nodes_of self.new.nodes)) }
+    {
+        if let Some(id) = self.nodes.get(&Label::of(label.text())) {
             return Ok(*id);
         }
-        let Some(next) = self.count.checked_add(1) else {
+        let node = Term::Blank {
+            at: time,
+            label: label.copy(alloc)?,
+        };
+        let id = self.next_id(spelled(alloc, &node)?)?;
+        self.nodes.insert(Label::of(label.text()), id)?;
+        Ok(id)
+    }
+
+    /// Gives the next id to the term of this spelling.
+    fn next_id(&mut self, key: Key) -> Result<u64, Want>
+        ensures id { IfOk result (λ given. given ≡ self.old.count + 1) }
+        ensures count { IfOk result (λ given. self.new.count ≡ given) }
+        ensures brought { IfOk result (λ given. self.new.brought.items ≡ self.old.brought.items ++ record { key = key; id = given } ∷ []) }
+        ensures nodes { OnOk result (self.new.nodes ≡ self.old.nodes) }
+    {
+        let Some(id) = self.count.checked_add(1) else {
             return Err(Want::NoMemory);
         };
-        self.brought.insert(key, next)?;
-        self.count = next;
-        Ok(next)
+        self.brought.push(NewTerm { key, id })?;
+        self.count = id;
+        Ok(id)
     }
 }
 
-/// The spelling of the term, bound at the time.
-fn spelled(alloc: Global, term: &Term, time: u64) -> Result<Key, Want>
-    ensures { IfOk result (λ key. key ≡ spelling (bound_term time term.now)) }
-{
-    let Term::Blank { label, .. } = term else {
-        return spelled_as_is(alloc, term);
-    };
-    let bound = Term::Blank {
-        at: time,
-        label: label.copy(alloc)?,
-    };
-    spelled_as_is(alloc, &bound)
-}
-
-/// The spelling of the term. There is no room for one whose form has 2^32 bytes or more.
-fn spelled_as_is(alloc: Global, term: &Term) -> Result<Key, Want>
-    ensures { IfOk result (λ key. key ≡ spelling term.now) }
-{
-    if !has_short_form(term) {
-        return Err(Want::NoMemory);
-    }
-    let bytes = term.encode(alloc)?;
-    Ok(Key::from_bytes(bytes))
-}
-
-fn has_short_form(term: &Term) -> bool
-    ensures { IsTrue result ↔ HasShortForm term.now }
+/// The label of the term, if it bears one.
+fn label_of(term: &Term) -> Option<&Text>
+    ensures { MatchOption result (IsUnlabelled term.now) (λ label. (at : ℕ) × (term.now ≡ Blank at label.now)) }
 {
     match term {
-        Term::Literal { form, .. } | Term::Tagged { form, .. } => is_short(form.text()),
-        Term::Iri(_) | Term::Blank { .. } => true,
+        Term::Blank { label, .. } => Some(label),
+        Term::Iri(_) | Term::Literal { .. } | Term::Tagged { .. } => None,
     }
 }
 
-fn is_short(form: &str) -> bool
-    ensures { IsTrue result ↔ (length form.now < 2 ^ 32) }
+/// The spelling at the place, if there is one.
+fn key_at(spellings: &[Key], place: usize) -> Option<&Key>
+    ensures { option_copied result ≡ slice_get spellings.now place }
 {
-    form.len() <= u32::MAX as usize
+    spellings.get(place)
+}
+
+/// The spelling of the term: a copy of the one that is at hand, if there is one.
+fn spelling_for(alloc: Global, term: &Term, spelling: Option<&Key>) -> Result<Key, Want>
+    ensures { IfOk result (λ made. IfSome spelling.entry (λ key. key.now ≡ spelling_of term.now) → made ≡ spelling_of term.now) }
+{
+    match spelling {
+        Some(spelling) => spelling.copy(alloc),
+        None => spelled(alloc, term),
+    }
 }
 
 /// The id at the place, if there is one.

@@ -1,7 +1,8 @@
 use super::*;
+use base_core::{List, Text, Want};
 use std::alloc::Global;
 use std::test::Fail;
-use term_core::{List, Statement, Term, Text, Want};
+use term_core::{Statement, Term};
 use window_core::{Cell, Row, Rows};
 
 const SPO_1_2_3: &[u8] = b"\0\0\0\0\0\0\0\x01\0\0\0\0\0\0\0\x02\0\0\0\0\0\0\0\x03";
@@ -26,9 +27,19 @@ fn entry_for(
     ids: [Option<u64>; 3],
     known: u64,
 ) -> Result<Entry, Want> {
+    entry_with(alloc, kind, statements, Vec::from_array(alloc, ids)?, known)
+}
+
+fn entry_with(
+    alloc: Global,
+    kind: Kind,
+    statements: List<Statement>,
+    ids: Vec<Option<u64>>,
+    known: u64,
+) -> Result<Entry, Want> {
     let vocabulary = vocabulary_of(alloc, &statements)?;
     let change = Change { kind, statements };
-    let ids = List::of(Vec::from_array(alloc, ids)?);
+    let ids = List::of(ids);
     let resolved = Resolved {
         change,
         vocabulary,
@@ -50,6 +61,26 @@ fn one(alloc: Global, statement: Statement) -> Result<List<Statement>, Want> {
     let mut statements = Vec::new(alloc);
     statements.push(statement)?;
     Ok(List::of(statements))
+}
+
+fn two(alloc: Global, first: Statement, second: Statement) -> Result<List<Statement>, Want> {
+    let mut statements = Vec::new(alloc);
+    statements.push(first)?;
+    statements.push(second)?;
+    Ok(List::of(statements))
+}
+
+fn node(alloc: Global, at: u64) -> Result<Term, Want> {
+    let label = Text::of(alloc, "x")?;
+    Ok(Term::Blank { at, label })
+}
+
+/// Whether this is the spelling at the place.
+fn is_spelled(vocabulary: &Vocabulary, place: usize, bytes: &[u8]) -> bool {
+    match vocabulary.spellings.items().get(place) {
+        Some(key) => key.bytes() == bytes,
+        None => false,
+    }
 }
 
 /// Whether the first row has this key, and this value if there is one.
@@ -82,6 +113,8 @@ fn a_vocabulary_has_shared_terms_once(rt: HostRuntime) -> Result<(), Fail> {
         object: 0,
     };
     assert_eq!(rt; vocabulary.places.items(), [places].as_slice());
+    assert!(rt; is_spelled(&vocabulary, 0, b"\x01a"));
+    assert!(rt; is_spelled(&vocabulary, 1, b"\x01p"));
     Ok(())
 }
 
@@ -127,8 +160,7 @@ fn a_remove_of_an_unknown_term_gives_no_row(rt: HostRuntime) -> Result<(), Fail>
 
 #[test]
 fn a_label_is_bound_at_the_time(rt: HostRuntime) -> Result<(), Fail> {
-    let label = Text::of(rt.alloc(), "x")?;
-    let node = Term::Blank { at: 0, label };
+    let node = node(rt.alloc(), 0)?;
     let statements = one(rt.alloc(), statement(rt.alloc(), "a", node)?)?;
     let ids = [Some(1), Some(2), None];
     let entry = entry_for(rt.alloc(), Kind::Add, statements, ids, 2)?;
@@ -139,5 +171,35 @@ fn a_label_is_bound_at_the_time(rt: HostRuntime) -> Result<(), Fail> {
             Some(b"\0\0\0\0\0\0\0\x03")
         )
     );
+    Ok(())
+}
+
+#[test]
+fn rows_stand_by_the_positions_of_their_order(rt: HostRuntime) -> Result<(), Fail> {
+    let first = statement(rt.alloc(), "a", iri(rt.alloc(), "b")?)?;
+    let second = statement(rt.alloc(), "b", iri(rt.alloc(), "a")?)?;
+    let statements = two(rt.alloc(), first, second)?;
+    let ids = [Some(1), Some(2), Some(3)];
+    let entry = entry_for(rt.alloc(), Kind::Add, statements, ids, 3)?;
+    assert!(rt; begins_with(&entry.spo, SPO_1_2_3, Some(b"")));
+    assert!(rt;
+        begins_with(
+            &entry.osp,
+            b"\0\0\0\0\0\0\0\x01\0\0\0\0\0\0\0\x03\0\0\0\0\0\0\0\x02",
+            Some(b"")
+        )
+    );
+    Ok(())
+}
+
+#[test]
+fn a_label_of_two_times_is_one_node(rt: HostRuntime) -> Result<(), Fail> {
+    let first = statement(rt.alloc(), "a", node(rt.alloc(), 0)?)?;
+    let second = statement(rt.alloc(), "a", node(rt.alloc(), 3)?)?;
+    let statements = two(rt.alloc(), first, second)?;
+    let ids = vec![in rt.alloc(); Some(1), Some(2), None, None]?;
+    let entry = entry_with(rt.alloc(), Kind::Add, statements, ids, 2)?;
+    assert_eq!(rt; entry.terms, 3);
+    assert_eq!(rt; entry.spo.items().len(), 1);
     Ok(())
 }
