@@ -1,24 +1,19 @@
 -- The bodies of a log stand at its places.
-use Rattle.std.proofs.Common.{◌≡◌, ℕ, ◌+◌, ◌<◌, ◌≤◌, zero, suc, List, [], ◌∷◌, ◌++◌, length, take, drop, Option, Some, None, refl, sym, ◌∙◌, ap, subst, arith}
+use Rattle.std.proofs.Common.{◌≡◌, ℕ, ◌+◌, ◌<◌, ◌≤◌, zero, suc, List, [], ◌∷◌, ◌++◌, length, map, take, drop, Option, Some, None, refl, sym, ◌∙◌, ap, subst, arith}
 use Rattle.std.specs.List.{slice_get}
 use Rattle.std.proofs.lemmas.List.{append_assoc, length-append, length-take-le, take_all, take_at, drop_at}
 use Rattle.disk_core.specs.Disk.{IsReadAt, TellsSound}
 use Rattle.disk_core.specs.Moments.{Told}
 use Rattle.record_log.specs.declared.log.RecordLog.{RecordLog}
-use Rattle.record_log.specs.declared.log.Stage.{Stage}
-use Rattle.record_log.specs.declared.log.Stage.TheVariants.{Settled, Begun, Opening}
-use Rattle.record_log.specs.declared.places.Place.{Place}
+use Rattle.record_log.specs.declared.extent.Stage.{Stage}
+use Rattle.record_log.specs.declared.extent.Stage.TheVariants.{Settled, Begun, Opening}
+use Rattle.record_log.specs.declared.extent.Place.{Place}
 use Rattle.record_log.specs.Places.{places_from}
 use Rattle.record_log.specs.Logs.{HasRecords, IsUndecided, IsLeft}
 use Rattle.record_log.specs.Devices.{WhereTold}
-use Rattle.record_log.specs.Records.{length_bytes, size_of}
-use Rattle.record_log.proofs.Spelled.{record_bytes, spelled, length-length_bytes, IsSpelled, spelled_from, places_from-append, length-places_from}
+use Rattle.base_core.specs.Numbers.{length_bytes}
+use Rattle.record_log.proofs.Spelled.{record_bytes, spelled, length-length_bytes, IsSpelled, spelled_from}
 use Rattle.record_log.proofs.Held.{IsHeld, held_from}
-
-slice_get-front : {X : Type 0} (xs ys : List X) (k : ℕ) → k < length xs → slice_get (xs ++ ys) k ≡ slice_get xs k
-slice_get-front [] ys k within = absurd (omega arith)
-slice_get-front (x ∷ xs) ys zero within = refl
-slice_get-front (x ∷ xs) ys (suc k) within = slice_get-front xs ys k (omega arith)
 
 -- the k-th body stands at this place
 pub record Stands (content : List ℕ) (bodies : List (List ℕ)) (k : ℕ) (place : Place) : Type 0 where
@@ -50,7 +45,7 @@ stands_first gate front body bodies tail size =
     }
 
 stands_at : (gate : ℕ) (front : List ℕ) (bodies : List (List ℕ)) (tail : List ℕ) (k : ℕ) (place : Place) → length front ≡ gate
-    → slice_get (places_from gate bodies) k ≡ Some place → Stands (front ++ (spelled bodies ++ tail)) bodies k place
+    → slice_get (places_from gate (map length bodies)) k ≡ Some place → Stands (front ++ (spelled bodies ++ tail)) bodies k place
 stands_at gate front [] tail k place size there = absurd cc
 stands_at gate front (body ∷ bodies) tail zero place size there =
     subst (Stands (front ++ (spelled (body ∷ bodies) ++ tail)) (body ∷ bodies) 0)
@@ -71,7 +66,7 @@ stands_at gate front (body ∷ bodies) tail (suc k) place size there =
     }
 
 stands_in : (content tail : List ℕ) (bodies : List (List ℕ)) (k : ℕ) (place : Place) → content ≡ spelled bodies ++ tail
-    → slice_get (places_from 0 bodies) k ≡ Some place → Stands content bodies k place
+    → slice_get (places_from 0 (map length bodies)) k ≡ Some place → Stands content bodies k place
 stands_in content tail bodies k place are there = subst (λ bytes. Stands bytes bodies k place) (sym are) (stands_at 0 [] bodies tail k place refl there)
 
 -- what is read at a place is the body
@@ -94,11 +89,11 @@ stands_whole content bodies k place out count len stands room size short read =
 -- ---- the places of a log
 
 has_stands : (log : RecordLog) (told : Told) (bodies : List (List ℕ)) (k : ℕ) (place : Place) → HasRecords log (Some told) bodies
-    → slice_get log.places k ≡ Some place → Stands (told.now log.file).content bodies k place
+    → slice_get (places_from 0 log.extent.sizes) k ≡ Some place → Stands (told.now log.file).content bodies k place
 has_stands log told bodies k place has there =
     let content : List ℕ = (told.now log.file).content in
     let is : IsSpelled content bodies = spelled_from content bodies has.spelled in
-    stands_in content (is.gate ∷ is.rest) bodies k place is.are (ap (λ (places : List Place). slice_get places k) (sym has.places) ∙ there)
+    stands_in content (is.gate ∷ is.rest) bodies k place is.are (ap (λ (sizes : List ℕ). slice_get (places_from 0 sizes) k) (sym has.sizes) ∙ there)
 
 -- records and then anything
 record Front (content : List ℕ) (bodies : List (List ℕ)) : Type 0 where
@@ -107,46 +102,43 @@ record Front (content : List ℕ) (bodies : List (List ℕ)) : Type 0 where
 
 left_front : (stage : Stage) (bodies : List (List ℕ)) (body content : List ℕ) → IsLeft stage bodies body content → Front content bodies
 left_front Settled bodies body content left = absurd left
-left_front (Begun next) bodies body content left =
+left_front (Begun size) bodies body content left =
     let is : IsSpelled content bodies = spelled_from content bodies left in record { tail = is.gate ∷ is.rest; are = is.are }
-left_front (Opening next) bodies body content left =
+left_front (Opening size) bodies body content left =
     let is : IsHeld content bodies body = held_from content bodies body left in record { tail = is.gate ∷ (record_bytes body ++ is.next ∷ is.rest); are = is.are }
 
 undecided_stands : (log : RecordLog) (told : Told) (bodies : List (List ℕ)) (body : List ℕ) (k : ℕ) (place : Place) → TellsSound (Some told)
-    → IsUndecided log (Some told) bodies body → k < length bodies → slice_get log.places k ≡ Some place → Stands (told.now log.file).content bodies k place
-undecided_stands log told bodies body k place sound undecided within there =
+    → IsUndecided log (Some told) bodies body → slice_get (places_from 0 log.extent.sizes) k ≡ Some place → Stands (told.now log.file).content bodies k place
+undecided_stands log told bodies body k place sound undecided there =
     let content : List ℕ = (told.now log.file).content in
-    let front : Front content bodies = left_front log.stage bodies body content (undecided.left content (sound log.file).content) in
-    let first : slice_get log.places k ≡ slice_get (places_from 0 bodies) k =
-    ap (λ (places : List Place). slice_get places k) (undecided.places ∙ places_from-append 0 bodies (body ∷ []))
-    ∙ slice_get-front (places_from 0 bodies) (places_from (0 + size_of bodies) (body ∷ [])) k (omega (arith, length-places_from 0 bodies)) in
-    stands_in content front.tail bodies k place front.are (sym first ∙ there)
+    let front : Front content bodies = left_front log.extent.stage bodies body content (undecided.left content (sound log.file).content) in
+    stands_in content front.tail bodies k place front.are (ap (λ (sizes : List ℕ). slice_get (places_from 0 sizes) k) (sym undecided.sizes) ∙ there)
 
 pub has_read : (log : RecordLog) (told : Option Told) (bodies : List (List ℕ)) (k : ℕ) (place : Place) (out items : List ℕ) (count len : ℕ)
-    → HasRecords log told bodies → slice_get log.places k ≡ Some place → length out ≡ place.size → len ≡ place.size → len ≤ count
+    → HasRecords log told bodies → slice_get (places_from 0 log.extent.sizes) k ≡ Some place → length out ≡ place.size → len ≡ place.size → len ≤ count
     → IsReadAt told log.file place.start (length out) (take count out) → WhereTold told (slice_get bodies k ≡ Some (take len (out ++ drop (length out) items)))
 has_read log None bodies k place out items count len has there room size enough read = tt
 has_read log (Some told) bodies k place out items count len has there room size enough read =
     stands_read (told.now log.file).content bodies k place out items count len (has_stands log told bodies k place has there) room size enough read
 
 pub has_whole : (log : RecordLog) (told : Option Told) (bodies : List (List ℕ)) (k : ℕ) (place : Place) (out : List ℕ) (count len : ℕ)
-    → HasRecords log told bodies → slice_get log.places k ≡ Some place → length out ≡ place.size → len ≡ place.size → count < len
+    → HasRecords log told bodies → slice_get (places_from 0 log.extent.sizes) k ≡ Some place → length out ≡ place.size → len ≡ place.size → count < len
     → IsReadAt told log.file place.start (length out) (take count out) → WhereTold told ⊥
 has_whole log None bodies k place out count len has there room size short read = tt
 has_whole log (Some told) bodies k place out count len has there room size short read =
     stands_whole (told.now log.file).content bodies k place out count len (has_stands log told bodies k place has there) room size short read
 
 pub undecided_read : (log : RecordLog) (told : Option Told) (bodies : List (List ℕ)) (body : List ℕ) (k : ℕ) (place : Place) (out items : List ℕ) (count len : ℕ)
-    → TellsSound told → IsUndecided log told bodies body → WhereTold told (k < length bodies) → slice_get log.places k ≡ Some place → length out ≡ place.size
+    → TellsSound told → IsUndecided log told bodies body → slice_get (places_from 0 log.extent.sizes) k ≡ Some place → length out ≡ place.size
     → len ≡ place.size → len ≤ count → IsReadAt told log.file place.start (length out) (take count out)
     → WhereTold told (slice_get bodies k ≡ Some (take len (out ++ drop (length out) items)))
-undecided_read log None bodies body k place out items count len sound undecided within there room size enough read = tt
-undecided_read log (Some told) bodies body k place out items count len sound undecided within there room size enough read =
-    stands_read (told.now log.file).content bodies k place out items count len (undecided_stands log told bodies body k place sound undecided within there) room size enough read
+undecided_read log None bodies body k place out items count len sound undecided there room size enough read = tt
+undecided_read log (Some told) bodies body k place out items count len sound undecided there room size enough read =
+    stands_read (told.now log.file).content bodies k place out items count len (undecided_stands log told bodies body k place sound undecided there) room size enough read
 
 pub undecided_whole : (log : RecordLog) (told : Option Told) (bodies : List (List ℕ)) (body : List ℕ) (k : ℕ) (place : Place) (out : List ℕ) (count len : ℕ)
-    → TellsSound told → IsUndecided log told bodies body → WhereTold told (k < length bodies) → slice_get log.places k ≡ Some place → length out ≡ place.size
+    → TellsSound told → IsUndecided log told bodies body → slice_get (places_from 0 log.extent.sizes) k ≡ Some place → length out ≡ place.size
     → len ≡ place.size → count < len → IsReadAt told log.file place.start (length out) (take count out) → WhereTold told ⊥
-undecided_whole log None bodies body k place out count len sound undecided within there room size short read = tt
-undecided_whole log (Some told) bodies body k place out count len sound undecided within there room size short read =
-    stands_whole (told.now log.file).content bodies k place out count len (undecided_stands log told bodies body k place sound undecided within there) room size short read
+undecided_whole log None bodies body k place out count len sound undecided there room size short read = tt
+undecided_whole log (Some told) bodies body k place out count len sound undecided there room size short read =
+    stands_whole (told.now log.file).content bodies k place out count len (undecided_stands log told bodies body k place sound undecided there) room size short read

@@ -1,53 +1,29 @@
 -- The records of a file, found gate by gate.
-use Rattle.std.proofs.Common.{◌≡◌, ℕ, ◌+◌, ◌<◌, ◌≤◌, ◌^◌, zero, suc, List, [], ◌∷◌, ◌++◌, length, take, drop, get_or, Option, Some, None, Err, Fits, w8, refl, sym, ◌∙◌, ap, subst, arith}
-use Rattle.std.specs.Int.{w32, from_be_bytes, to_be_bytes}
-use Rattle.std.proofs.lemmas.Nat.{be_bytes_4}
+use Rattle.std.proofs.Common.{◌≡◌, ℕ, ◌+◌, ◌<◌, ◌≤◌, ◌^◌, suc, List, [], ◌∷◌, ◌++◌, length, map, take, drop, Option, Some, None, Err, refl, sym, ◌∙◌, ap, subst, arith}
 use Rattle.std.proofs.lemmas.List.{append-nil, append_assoc, length-append, length-take, length-take-le, take-append-drop, take_at, take_all, drop_at, drop-drop}
 use Rattle.disk_core.specs.Disk.{IsReadAt}
 use Rattle.disk_core.specs.Moments.{Told}
 use Rattle.record_log.specs.declared.fault.LogFault.{LogFault}
 use Rattle.record_log.specs.declared.fault.LogFault.TheVariants.{NoMemory, Failed, NeedsMend, Full, BadRecord}
-use Rattle.record_log.specs.declared.places.Place.{Place}
 use Rattle.record_log.specs.Gates.{AreClosed, AreOpen, AreShort, AreWhole, AreFound, IsBehind}
-use Rattle.record_log.specs.Devices.{Reads}
+use Rattle.record_log.specs.Devices.{ReadsFile}
 use Rattle.record_log.specs.Faults.{IsStartFault}
-use Rattle.record_log.specs.Places.{places_from}
-use Rattle.record_log.specs.Records.{length_bytes, IsRecord, Spells, IsBadFrom, size_of}
-use Rattle.record_log.proofs.Spelled.{record_bytes, IsShort, AreAllShort, spelled, spelled-append, all_short-append, size_of-append, places_from-append, length-length_bytes, same_length, Spells_from, Begins}
+use Rattle.base_core.specs.Numbers.{length_bytes}
+use Rattle.record_log.specs.Records.{IsRecord, Spells, IsBadFrom, size_of}
+use Rattle.record_log.proofs.Extents.{sizes-more}
+use Rattle.record_log.proofs.Spelled.{record_bytes, IsShort, AreAllShort, spelled, spelled-append, all_short-append, size_of-append, length-length_bytes, same_length, Spells_from, Begins}
 
 -- ---- the first bytes from a gate on
 
--- the items of a front are bytes too
-small_take : (n : ℕ) (bytes : List ℕ) → ((k : ℕ) → get_or bytes k 0 < 256) → (k : ℕ) → get_or (take n bytes) k 0 < 256
-small_take zero bytes small k = omega arith
-small_take (suc n) [] small k = omega arith
-small_take (suc n) (b ∷ bytes) small zero = small 0
-small_take (suc n) (b ∷ bytes) small (suc k) = small_take n bytes (λ j. small (suc j)) k
-
-small_rest : (gate : ℕ) (bytes behind : List ℕ) → bytes ≡ gate ∷ behind → ((k : ℕ) → Fits w8 (get_or bytes k 0)) → (k : ℕ) → get_or behind k 0 < 256
-small_rest gate bytes behind are fits k = let there : get_or behind k 0 ≡ get_or bytes (suc k) 0 = sym (ap (λ (list : List ℕ). get_or list (suc k) 0) are) in omega (arith, fits (suc k))
-
 -- an open gate with four bytes behind it
-pub open_head : (bytes behind field : List ℕ) (gate n : ℕ) → bytes ≡ gate ∷ behind → gate ≡ 1 → 4 ≤ length behind → field ≡ take 4 behind
-    → ((k : ℕ) → Fits w8 (get_or bytes k 0)) → n < 2 ^ 32 → n ≡ from_be_bytes w32 field → AreOpen bytes n
-unfolding length_bytes
-open_head bytes behind field gate n are opened enough same fits short is =
-    let small : (k : ℕ) → get_or field k 0 < 256 =
-    λ k. let low : get_or (take 4 behind) k 0 < 256 = small_take 4 behind (small_rest gate bytes behind are fits) k in
-    let there : get_or field k 0 ≡ get_or (take 4 behind) k 0 = ap (λ (list : List ℕ). get_or list k 0) same in omega arith in
-    let long : length field ≡ 4 = ap length same ∙ length-take-le 4 behind enough in
-    let spells : to_be_bytes w32 n ≡ field = be_bytes_4 field n long small is in
-    record {
-      rest = drop 4 behind;
-      short = short;
-      are = are ∙ ap (λ (g : ℕ). g ∷ behind) opened
-          ∙ ap (λ (list : List ℕ). 1 ∷ list) (sym (take-append-drop 4 behind) ∙ ap (λ (list : List ℕ). list ++ drop 4 behind) (sym same ∙ sym spells));
-    }
+pub open_head : (bytes behind rest : List ℕ) (gate n : ℕ) → bytes ≡ gate ∷ behind → gate ≡ 1 → n < 2 ^ 32 → behind ≡ length_bytes n ++ rest → AreOpen bytes n
+open_head bytes behind rest gate n are opened short parts =
+    record { rest = rest; short = short; are = are ∙ ap (λ (g : ℕ). g ∷ behind) opened ∙ ap (λ (list : List ℕ). 1 ∷ list) parts }
 
 -- ---- what stands from a gate on, where its first five bytes are known
 
 -- what a device read of a file that reads as these bytes
-pub read_front : (told : Option Told) (file gate room : ℕ) (bytes front : List ℕ) → Reads told file bytes → IsReadAt told file gate room front
+pub read_front : (told : Option Told) (file gate room : ℕ) (bytes front : List ℕ) → ReadsFile told file bytes → IsReadAt told file gate room front
     → front ≡ take room (drop gate bytes)
 read_front None file gate room bytes front reads read = absurd reads
 read_front (Some told) file gate room bytes front reads read = read ∙ ap (λ (list : List ℕ). take room (drop gate list)) reads
@@ -101,29 +77,23 @@ short_from tail front same head =
 
 -- ---- records so far
 
--- the records of these bodies stand before a gate, and their places are known
-pub record SoFar (bytes : List ℕ) (found : List Place) (at : ℕ) : Type 0 where
+-- the records of these bodies stand before a gate, and their sizes are known
+pub record SoFar (bytes : List ℕ) (found : List ℕ) (at : ℕ) : Type 0 where
   pub bodies : List (List ℕ)
   pub short : AreAllShort bodies
   pub are : bytes ≡ spelled bodies ++ drop at bytes
-  pub places : found ≡ places_from 0 bodies
+  pub sizes : found ≡ map length bodies
   pub gate : at ≡ size_of bodies
 
 pub none_so_far : (bytes : List ℕ) → SoFar bytes [] 0
-none_so_far bytes = record { bodies = []; short = tt; are = refl; places = refl; gate = refl }
-
-abbrev same_place : ℕ → ℕ → Place
-same_place start size = record { start = start; size = size }
+none_so_far bytes = record { bodies = []; short = tt; are = refl; sizes = refl; gate = refl }
 
 small_body : (n : ℕ) (body : List ℕ) → length body ≡ n → n < 2 ^ 32 → IsShort body
 small_body n body size short = subst (λ (k : ℕ). k < 2 ^ 32) (sym size) short
 
-same_parts : (start other size other_size : ℕ) → start ≡ other → size ≡ other_size → same_place start size ≡ same_place other other_size
-same_parts start other size other_size starts sizes = ap (λ (s : ℕ). same_place s size) starts ∙ ap (same_place other) sizes
-
 -- one record more
-pub more_so_far : (bytes : List ℕ) (found : List Place) (at n : ℕ) → SoFar bytes found at → AreWhole (drop at bytes) n
-    → SoFar bytes (found ++ record { start = at + 5; size = n } ∷ []) (at + (5 + n))
+pub more_so_far : (bytes : List ℕ) (found : List ℕ) (at n : ℕ) → SoFar bytes found at → AreWhole (drop at bytes) n
+    → SoFar bytes (found ++ n ∷ []) (at + (5 + n))
 more_so_far bytes found at n so_far whole =
     let rest : List ℕ = whole.head.rest in
     let body : List ℕ = take n rest in
@@ -143,21 +113,18 @@ more_so_far bytes found at n so_far whole =
       short = all_short-append so_far.bodies (body ∷ []) so_far.short (small_body n body size whole.head.short, tt);
       are = so_far.are ∙ ap (λ (list : List ℕ). spelled so_far.bodies ++ list) (whole.head.are ∙ ap (λ (list : List ℕ). 1 ∷ list) (parts ∙ ap (λ (list : List ℕ). record_bytes body ++ list) (sym onward)))
           ∙ sym (append_assoc (spelled so_far.bodies) (1 ∷ record_bytes body) (drop (at + (5 + n)) bytes)) ∙ ap (λ (list : List ℕ). list ++ drop (at + (5 + n)) bytes) (sym one);
-      places = ap (λ (list : List Place). list ++ record { start = at + 5; size = n } ∷ []) so_far.places
-          ∙ ap (λ (place : Place). places_from 0 so_far.bodies ++ place ∷ []) (same_parts (at + 5) (0 + size_of so_far.bodies + 5) n (length body) (omega (arith, so_far.gate)) (sym size))
-          ∙ sym (places_from-append 0 so_far.bodies (body ∷ []));
+      sizes = sizes-more found so_far.bodies body n so_far.sizes (sym size);
       gate = omega (arith, so_far.gate, size_of-append so_far.bodies (body ∷ []));
     }
 
 -- a closed gate ends the records
-pub found_so_far : (bytes : List ℕ) (found : List Place) (at : ℕ) → SoFar bytes found at → AreClosed (drop at bytes) → AreFound bytes (record { places = found; end = at })
+pub found_so_far : (bytes : List ℕ) (found : List ℕ) (at : ℕ) → SoFar bytes found at → AreClosed (drop at bytes) → AreFound bytes found
 found_so_far bytes found at so_far closed =
     let are : bytes ≡ spelled so_far.bodies ++ closed.gate ∷ closed.rest = so_far.are ∙ ap (λ (list : List ℕ). spelled so_far.bodies ++ list) closed.are in
     record {
       bodies = so_far.bodies;
       spelled = subst (λ list. Spells list so_far.bodies) (sym are) (Spells_from so_far.bodies closed.gate closed.rest closed.closed so_far.short);
-      places = so_far.places;
-      end = so_far.gate;
+      sizes_are = so_far.sizes;
     }
 
 bad_begins : (bytes : List ℕ) (at : ℕ) → IsBadFrom bytes at → Begins bytes
@@ -174,12 +141,12 @@ bad_behind (body ∷ bodies) tail short bad =
     (record { short = short.0; are = append_assoc (record_bytes body) (spelled bodies) tail ∙ ap (λ (list : List ℕ). record_bytes body ++ list) gate.are })
     (subst (λ list. IsBadFrom list (size_of bodies)) gate.are onward)
 
-pub bad_so_far : (bytes : List ℕ) (found : List Place) (at : ℕ) → SoFar bytes found at → IsBadFrom (drop at bytes) 0 → IsBadFrom bytes at
+pub bad_so_far : (bytes : List ℕ) (found : List ℕ) (at : ℕ) → SoFar bytes found at → IsBadFrom (drop at bytes) 0 → IsBadFrom bytes at
 bad_so_far bytes found at so_far bad =
     subst (IsBadFrom bytes) (sym so_far.gate) (subst (λ list. IsBadFrom list (size_of so_far.bodies)) (sym so_far.are) (bad_behind so_far.bodies (drop at bytes) so_far.short bad))
 
 -- why the search of records ends
-pub fault_so_far : (bytes : List ℕ) (found : List Place) (at : ℕ) (fault : LogFault) → 1 < length bytes → SoFar bytes found at → IsBehind bytes at (Err fault) → IsStartFault bytes fault
+pub fault_so_far : (bytes : List ℕ) (found : List ℕ) (at : ℕ) (fault : LogFault) → 1 < length bytes → SoFar bytes found at → IsBehind bytes at (Err fault) → IsStartFault bytes fault
 fault_so_far bytes found at NoMemory long so_far behind = tt
 fault_so_far bytes found at Failed long so_far behind = tt
 fault_so_far bytes found at NeedsMend long so_far behind = behind

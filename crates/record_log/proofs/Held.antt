@@ -5,7 +5,8 @@ use Rattle.std.proofs.lemmas.List.{append-nil, append_assoc, length-append, take
 use Rattle.disk_core.specs.Files.{with_bytes}
 use Rattle.disk_core.proofs.Writing.{with_bytes_at}
 use Rattle.record_log.specs.Logs.{IsEitherLog}
-use Rattle.record_log.specs.Records.{length_bytes, Spells, size_of}
+use Rattle.base_core.specs.Numbers.{length_bytes}
+use Rattle.record_log.specs.Records.{Spells, size_of}
 use Rattle.record_log.proofs.Spelled.{record_bytes, IsShort, AreAllShort, spelled, length-spelled, spelled-append, all_short-append, IsSpelled, spelled_from, Spells_from_spelled}
 
 -- ---- the front of a log decides

@@ -1,8 +1,13 @@
 pub mod Bodies
+pub mod Carrying
 pub mod Counting
+pub mod Extents
+pub mod Files
 pub mod Finding
+pub mod Fresh
 pub mod Held
 pub mod Images
+pub mod Items
 pub mod Leaving
 pub mod Mending
 pub mod Moving

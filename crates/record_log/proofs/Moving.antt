@@ -2,7 +2,7 @@
 use Rattle.std.proofs.Common.{◌≡◌, ℕ, List, [], ◌∷◌, length, Option, Some, None, Result, Ok, Err, OnErr, sym, ◌∙◌, ap, subst, inl, inr}
 use Rattle.disk_core.specs.Disk.{IsWritten, IsPerhapsWritten, IsSynced, TellsSound}
 use Rattle.disk_core.specs.Files.{FileState, IsImage, IsTornFile, with_bytes, written, synced}
-use Rattle.disk_core.specs.Moments.{Told, State, SameBut, EachImage, Steps, StepsPerhaps, GoesOn}
+use Rattle.disk_core.specs.Moments.{Told, State, SameBut, EachImage, Steps, StepsPerhaps, MomentsGoOn}
 use Rattle.disk_core.proofs.Going.{goes_nowhere, goes_a_step, goes_weaker, goes_in_file, same_but_further}
 use Rattle.disk_core.proofs.Writing.{image_of_synced, torn_from_written}
 use Rattle.record_log.specs.Devices.{MomentsHave}
@@ -14,8 +14,8 @@ abbrev pub InFile : ℕ → (List ℕ → Type 0) → State → State → Type 0
 InFile file P old state = SameBut file old state × EachImage file P state
 
 goes_failed : (file at count : ℕ) (P : List ℕ → Type 0) (old new : Told) → Leaves (old.now file) at count P
-    → StepsPerhaps file (IsTornFile at count) old new → GoesOn (InFile file P old.now) old new
-goes_failed file at count P old new leaves (inl same) = subst (λ told. GoesOn (InFile file P old.now) old told) (sym same) (goes_nowhere (InFile file P old.now) old)
+    → StepsPerhaps file (IsTornFile at count) old new → MomentsGoOn (InFile file P old.now) old new
+goes_failed file at count P old new leaves (inl same) = subst (λ told. MomentsGoOn (InFile file P old.now) old told) (sym same) (goes_nowhere (InFile file P old.now) old)
 goes_failed file at count P old new leaves (inr steps) =
     goes_a_step (InFile file P old.now) old new steps.past (steps.others, torn_leaves (old.now file) (new.now file) at count P leaves steps.changed)
 
@@ -35,7 +35,7 @@ each_through : (file at : ℕ) (bytes : List ℕ) (P : List ℕ → Type 0) (old
 each_through file at bytes P old new has through image is_image = subst P (sym (image_through file at bytes old new image through is_image)) has
 
 goes_through : (file at : ℕ) (bytes : List ℕ) (P : List ℕ → Type 0) (old new : Told) → Leaves (old.now file) at (length bytes) P
-    → P (with_bytes (old.now file).content at bytes) → GoesThrough file at bytes old new → GoesOn (InFile file P old.now) old new
+    → P (with_bytes (old.now file).content at bytes) → GoesThrough file at bytes old new → MomentsGoOn (InFile file P old.now) old new
 goes_through file at bytes P old new leaves has through =
     record {
       come = new.now ∷ through.between ∷ [];
@@ -52,7 +52,7 @@ each_synced file P old new has steps image is_image =
     subst P (sym (image_of_synced (old.now file) image (subst (λ state. IsImage state image) steps.changed is_image))) has
 
 goes_synced : (file : ℕ) (P : List ℕ → Type 0) (old new : Told) → P (old.now file).content → Steps file (λ before after. after ≡ synced before) old new
-    → GoesOn (InFile file P old.now) old new
+    → MomentsGoOn (InFile file P old.now) old new
 goes_synced file P old new has steps = goes_a_step (InFile file P old.now) old new steps.past (steps.others, each_synced file P old new has steps)
 
 written_told : (file at : ℕ) (bytes : List ℕ) (old new : Told) → Steps file (λ before after. after ≡ written before at bytes) old new

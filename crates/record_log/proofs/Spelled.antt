@@ -4,19 +4,16 @@ use Rattle.std.specs.Int.{w32, from_be_bytes}
 use Rattle.std.specs.List.{AllByRecursion}
 use Rattle.std.proofs.lemmas.Nat.{from_be_bytes-to_be_bytes_4}
 use Rattle.std.proofs.lemmas.List.{append_assoc, length-append, take_at, drop_at}
-use Rattle.record_log.specs.declared.places.Place.{Place}
-use Rattle.record_log.specs.Places.{places_from}
-use Rattle.record_log.specs.Records.{length_bytes, IsRecord, Spells, size_of}
+use Rattle.base_core.specs.Numbers.{length_bytes}
+use Rattle.record_log.specs.Records.{IsRecord, Spells, size_of}
 
 -- ---- lengths
 
 pub length-length_bytes : (n : ℕ) → length (length_bytes n) ≡ 4
-unfolding length_bytes
 length-length_bytes n = refl
 
 -- four bytes are the length of one body at the most
 pub same_length : (one other : ℕ) → one < 2 ^ 32 → other < 2 ^ 32 → length_bytes one ≡ length_bytes other → one ≡ other
-unfolding length_bytes
 same_length one other short_one short_other same =
     sym (from_be_bytes-to_be_bytes_4 one short_one) ∙ ap (from_be_bytes w32) same ∙ from_be_bytes-to_be_bytes_4 other short_other
 
@@ -55,17 +52,6 @@ size_of-append (body ∷ bodies) other = omega (arith, size_of-append bodies oth
 pub all_short-append : (one other : List (List ℕ)) → AreAllShort one → AreAllShort other → AreAllShort (one ++ other)
 all_short-append [] other first second = second
 all_short-append (body ∷ bodies) other first second = (first.0, all_short-append bodies other first.1 second)
-
-pub places_from-append : (gate : ℕ) (one other : List (List ℕ)) → places_from gate (one ++ other) ≡ places_from gate one ++ places_from (gate + size_of one) other
-places_from-append gate [] other = ap (λ place. places_from place other) (omega arith)
-places_from-append gate (body ∷ bodies) other =
-    ap (λ (places : List Place). record { start = gate + 5; size = length body } ∷ places)
-    (places_from-append (gate + 5 + length body) bodies other
-    ∙ ap (λ place. places_from (gate + 5 + length body) bodies ++ places_from place other) (omega arith))
-
-pub length-places_from : (gate : ℕ) (bodies : List (List ℕ)) → length (places_from gate bodies) ≡ length bodies
-length-places_from gate [] = refl
-length-places_from gate (body ∷ bodies) = omega (arith, length-places_from (gate + 5 + length body) bodies)
 
 -- ---- a list with its last gate
 

@@ -1,6 +1,6 @@
 -- Words on the faults of a log.
 use Rattle.std.specs.Prelude.{◌≡◌, ◌≤◌, ℕ, List, Result, Err}
-use Rattle.disk_core.specs.Disk.{HasRisen}
+use Rattle.base_core.specs.Faults.{HasRisen}
 use Rattle.record_log.specs.declared.fault.LogFault.{LogFault}
 use Rattle.record_log.specs.declared.fault.LogFault.TheVariants.{NoMemory, Failed, NeedsMend, Full, BadRecord}
 use Rattle.record_log.specs.Records.{IsBadLog}
@@ -26,7 +26,15 @@ IsPutFault NeedsMend = Unit {0}
 IsPutFault Full = Unit {0}
 IsPutFault (BadRecord at) = ⊥
 
--- what a read can answer
+-- what a put of a prepared record can answer
+abbrev pub IsPreparedFault : LogFault → Type 0
+IsPreparedFault NoMemory = ⊥
+IsPreparedFault Failed = Unit {0}
+IsPreparedFault NeedsMend = Unit {0}
+IsPreparedFault Full = Unit {0}
+IsPreparedFault (BadRecord at) = ⊥
+
+-- what a read can answer, and a start
 abbrev pub IsReadFault : LogFault → Type 0
 IsReadFault NoMemory = Unit {0}
 IsReadFault Failed = Unit {0}
@@ -43,9 +51,9 @@ IsStartFault bytes Full = ⊥
 IsStartFault bytes (BadRecord at) = IsBadLog bytes at
 
 -- the record at this place is bad, or a fault of the outside kept the start from finding it
-abbrev pub IsBadAt : ℕ → LogFault → Type 0
-IsBadAt at NoMemory = Unit {0}
-IsBadAt at Failed = Unit {0}
-IsBadAt at NeedsMend = ⊥
-IsBadAt at Full = ⊥
-IsBadAt at (BadRecord place) = place ≡ at
+abbrev pub IsBadRecordAt : ℕ → LogFault → Type 0
+IsBadRecordAt at NoMemory = Unit {0}
+IsBadRecordAt at Failed = Unit {0}
+IsBadRecordAt at NeedsMend = ⊥
+IsBadRecordAt at Full = ⊥
+IsBadRecordAt at (BadRecord place) = place ≡ at

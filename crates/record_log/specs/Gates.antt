@@ -1,13 +1,12 @@
--- What is found at the gates of a file, where the device tells it.
-use Rattle.std.specs.Prelude.{◌≡◌, ◌≢◌, ◌↔◌, ℕ, ◌<◌, ◌^◌, List, ◌∷◌, ◌++◌, length, drop, Bool, IsTrue, Option, Some, None, Result, Ok, Err, slice_index}
+-- Private: what is found at the gates of a file, where the device tells it.
+use Rattle.std.specs.Prelude.{◌≡◌, ◌≢◌, ◌↔◌, ℕ, ◌<◌, ◌^◌, List, ◌∷◌, ◌++◌, length, drop, map, Bool, IsTrue, Option, Some, None, Result, Ok, Err, slice_index}
 use Rattle.disk_core.specs.Moments.{Told}
 use Rattle.record_log.specs.declared.fault.LogFault.{LogFault}
 use Rattle.record_log.specs.declared.fault.LogFault.TheVariants.{NoMemory, Failed, NeedsMend, Full, BadRecord}
-use Rattle.record_log.specs.declared.gates.Found.{Found}
 use Rattle.record_log.specs.declared.gates.Head.{Head}
 use Rattle.record_log.specs.declared.gates.Head.TheVariants.{Closed, Open, Short}
-use Rattle.record_log.specs.Places.{places_from}
-use Rattle.record_log.specs.Records.{length_bytes, Spells, IsBadFrom, size_of}
+use Rattle.base_core.specs.Numbers.{length_bytes}
+use Rattle.record_log.specs.Records.{Spells, IsBadFrom}
 
 -- the gate at this place is open
 abbrev pub IsOpenAt : Option Told → ℕ → ℕ → Bool → Type 0
@@ -53,9 +52,8 @@ IsBehind bytes gate (Err NoMemory) = ⊥
 IsBehind bytes gate (Err NeedsMend) = ⊥
 IsBehind bytes gate (Err Full) = ⊥
 
--- the bytes are the records of these bodies, whose places were found, and the place of the closed gate behind them
-pub record AreFound (bytes : List ℕ) (found : Found) : Type 0 where
+-- the bytes are the records of bodies that have these sizes
+pub record AreFound (bytes : List ℕ) (sizes : List ℕ) : Type 0 where
   pub bodies : List (List ℕ)
   pub spelled : Spells bytes bodies
-  pub places : found.places ≡ places_from 0 bodies
-  pub end : found.end ≡ size_of bodies
+  pub sizes_are : sizes ≡ map length bodies

@@ -1,8 +1,11 @@
 pub mod Devices
 pub mod Faults
 pub mod Gates
+pub mod Items
 pub mod Logs
 pub mod Places
+pub mod Prepared
 pub mod Records
+pub mod Sizes
 pub mod Steps
 pub mod Through

@@ -1,11 +1,7 @@
 -- What the bytes of a log file stand for. A log is a gate byte, and then for each record its length, its body and the next gate. The gate 1 is
 -- open and any other is closed; what stands behind the first closed gate means nothing.
 use Rattle.std.specs.Prelude.{◌≡◌, ◌≢◌, ℕ, ◌+◌, ◌<◌, ◌≤◌, ◌^◌, List, [], ◌∷◌, ◌++◌, length, ◌⊎◌}
-use Rattle.std.specs.Int.{w32, to_be_bytes}
-
--- the length of a body, below 2 ^ 32, in four bytes, the highest first
-unfoldable pub length_bytes : ℕ → List ℕ
-length_bytes n = to_be_bytes w32 n
+use Rattle.base_core.specs.Numbers.{length_bytes}
 
 -- behind an open gate stand the length of a body, the body, and what goes on with the next gate
 pub record IsRecord (behind body : List ℕ) (gate : ℕ) (rest : List ℕ) : Type 0 where

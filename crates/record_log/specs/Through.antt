@@ -1,4 +1,4 @@
--- What a write leaves that is synced.
+-- Private: what a write leaves that is synced.
 use Rattle.std.specs.Prelude.{◌≡◌, ℕ, List, ◌∷◌, Option}
 use Rattle.disk_core.specs.Files.{written, synced}
 use Rattle.disk_core.specs.Moments.{Told, State, moments, SameBut, BothTell}

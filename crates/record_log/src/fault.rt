@@ -2,7 +2,7 @@
 ghost use Rattle.std.specs.Prelude.{◌≡◌};
 ghost use Rattle.record_log.specs.declared.fault.LogFault.TheVariants.{NoMemory, Failed};
 
-use term_core::Want;
+use base_core::Want;
 
 /// Why a log gave no answer.
 #[derive(Clone, Copy, Debug, PartialEq, Eq)]

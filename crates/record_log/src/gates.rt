@@ -1,21 +1,20 @@
 //! Reading a log: gate by gate, with the length behind each, past the bodies.
 ghost use Rattle.std.specs.Prelude.{◌≡◌, ◌+◌, ◌<◌, ℕ, List, length, IfOk, IfErr, IfSome};
-ghost use Rattle.disk_core.specs.Disk.{IsCounted};
+ghost use Rattle.base_core.specs.Faults.{IsCounted};
 ghost use Rattle.record_log.specs.Gates.{IsOpenAt, IsHead, IsBehind, AreFound};
-ghost use Rattle.record_log.specs.Devices.{Reads};
-ghost use Rattle.record_log.specs.Faults.{IsStartFault, IsCountedBy};
+ghost use Rattle.record_log.specs.Devices.{ReadsFile};
+ghost use Rattle.record_log.specs.Faults.{IsReadFault, IsStartFault, IsCountedBy};
+ghost use Rattle.record_log.specs.declared.extent.Stage.TheVariants.{Settled};
 
+use crate::extent::{Extent, HEAD_SIZE};
 use crate::fault::LogFault;
-use crate::places::{Place, Places};
+use base_core::first_u32;
 use disk_core::{Disk, Failed};
 use std::alloc::Global;
 
 pub const OPEN: u8 = 1;
 
 pub const CLOSED: u8 = 0;
-
-/// The bytes of a gate, and of the length of a body behind it.
-pub const HEAD_SIZE: u64 = 5;
 
 /// What the first bytes from a gate on say.
 #[derive(Drop)]
@@ -25,13 +24,6 @@ enum Head {
     Open { body: u32 },
     /// The gate is open, and no four bytes stand behind it.
     Short,
-}
-
-/// The records of a log, and the place of the closed gate behind them.
-#[derive(Drop)]
-pub struct Found {
-    pub places: Places,
-    pub end: u64,
 }
 
 /// Whether the gate at a place is open.
@@ -58,11 +50,9 @@ fn head_of(bytes: &[u8]) -> Head
     if *gate != OPEN {
         return Head::Closed;
     }
-    let Some(field) = behind.first_chunk::<4>() else {
-        return Head::Short;
-    };
-    Head::Open {
-        body: u32::from_be_bytes(*field),
+    match first_u32(behind) {
+        Some((body, _)) => Head::Open { body },
+        None => Head::Short,
     }
 }
 
@@ -77,7 +67,8 @@ fn size_behind<D: Disk>(
     ensures same { D.told disk.new ≡ D.told disk.old }
     ensures counted { IsCountedBy (D.fault_count disk.old) (D.fault_count disk.new) result }
     ensures within { IfOk result (λ body. IfSome body (λ n. gate + 5 + n < size)) }
-    ensures behind { (bytes : List ℕ) → Reads (D.told disk.old) file bytes → size ≡ length bytes → IsBehind bytes gate result }
+    ensures faults { IfErr result IsReadFault }
+    ensures behind { (bytes : List ℕ) → ReadsFile (D.told disk.old) file bytes → size ≡ length bytes → IsBehind bytes gate result }
 {
     let mut head = [0; HEAD_SIZE as usize];
     let count = disk.read_at(file, gate, &mut head)?;
@@ -97,23 +88,22 @@ pub fn find_records<D: Disk>(
     disk: &mut D,
     file: u64,
     size: u64,
-) -> Result<Found, LogFault>
+) -> Result<Extent, LogFault>
     requires { 1 < size }
     ensures same { D.told disk.new ≡ D.told disk.old }
     ensures counted { IsCountedBy (D.fault_count disk.old) (D.fault_count disk.new) result }
-    ensures found { (bytes : List ℕ) → Reads (D.told disk.old) file bytes → size ≡ length bytes → IfOk result (AreFound bytes) }
-    ensures bad { (bytes : List ℕ) → Reads (D.told disk.old) file bytes → size ≡ length bytes → IfErr result (IsStartFault bytes) }
+    ensures settled { IfOk result (λ extent. extent.stage ≡ Settled) }
+    ensures faults { IfErr result IsReadFault }
+    ensures found { (bytes : List ℕ) → ReadsFile (D.told disk.old) file bytes → size ≡ length bytes → IfOk result (λ extent. AreFound bytes extent.sizes) }
+    ensures bad { (bytes : List ℕ) → ReadsFile (D.told disk.old) file bytes → size ≡ length bytes → IfErr result (IsStartFault bytes) }
 {
-    let mut places = Places::new(alloc);
+    let mut extent = Extent::new(alloc);
     let mut gate = 0;
     'gates: loop {
         let Some(body) = size_behind(disk, file, gate, size)? else {
-            return Ok(Found { places, end: gate });
+            return Ok(extent);
         };
-        places.push(Place {
-            start: gate + HEAD_SIZE,
-            size: body,
-        })?;
+        extent.add(body)?;
         gate += HEAD_SIZE + u64::from(body);
     }
 }

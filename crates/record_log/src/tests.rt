@@ -1,12 +1,12 @@
 //! The log over a small device in memory.
 ghost use Rattle.std.specs.Prelude.{◌≤◌, None, length, IfOk, OnErr};
-ghost use Rattle.disk_core.specs.Disk.{HasRisen, IsCounted};
+ghost use Rattle.base_core.specs.Faults.{HasRisen, IsCounted};
 
 use super::*;
+use base_core::Want;
 use disk_core::{Disk, Failed};
 use std::alloc::Global;
 use std::test::Fail;
-use term_core::Want;
 
 /// One file in memory, whatever its number. Its calls fail from one on, for as long as is asked.
 #[derive(Drop)]
@@ -334,5 +334,81 @@ fn a_put_after_a_mend_writes_over_what_failed(rt: HostRuntime) -> Result<(), Fai
     assert_eq!(rt; count_of(alloc, disk.stored.as_slice())?, 2);
     let body = body_of(alloc, &log, &mut disk, 1)?.ok_or("no record")?;
     assert_eq!(rt; body.as_slice(), b"cd".as_slice());
+    Ok(())
+}
+
+/// Whether records of these two sizes fit.
+fn fit(log: &RecordLog, size: u64, larger: u64) -> (bool, bool) {
+    (log.fits(size), log.fits(larger))
+}
+
+#[test]
+fn what_fits_within_a_limit(rt: HostRuntime) -> Result<(), Fail> {
+    let alloc = rt.alloc();
+    let mut disk = OneFile::of(alloc, b"")?;
+    let mut log = RecordLog::start(alloc, &mut disk, FILE, 30)?;
+    assert_eq!(rt; log.limit(), 30);
+    assert_eq!(rt; fit(&log, 24, 25), (true, false));
+    assert_eq!(rt; fit(&log, 0, u64::MAX), (true, false));
+    assert_eq!(rt; log.put(alloc, &mut disk, b"abc"), Ok(1));
+    assert_eq!(rt; fit(&log, 16, 17), (true, false));
+    disk.fail_at(2);
+    assert_eq!(rt; log.put(alloc, &mut disk, b"d"), Err(LogFault::Failed));
+    assert_eq!(rt; fit(&log, 10, 11), (true, false), "as if it were in");
+    disk.fail_at(NEVER);
+    assert_eq!(rt; log.mend(&mut disk), Ok(false));
+    assert_eq!(rt; fit(&log, 16, 17), (true, false));
+    Ok(())
+}
+
+/// The places of the gates of the first three records.
+fn gates_of(log: &RecordLog) -> Option<(u64, u64, u64)> {
+    if log.count() < 3 {
+        return None;
+    }
+    Some((log.place(0), log.place(1), log.place(2)))
+}
+
+#[test]
+fn a_record_is_named_by_its_gate(rt: HostRuntime) -> Result<(), Fail> {
+    let bytes = [1, 0, 0, 0, 2, 7, 7, 1, 0, 0, 0, 0, 1, 0, 0, 0, 1, 7, 0];
+    let mut disk = OneFile::of(rt.alloc(), &bytes)?;
+    let log = RecordLog::start(rt.alloc(), &mut disk, FILE, 1000)?;
+    assert_eq!(rt; gates_of(&log), Some((0, 7, 12)));
+    Ok(())
+}
+
+/// Prepares the record "cd" while a put is undecided, mends, and puts it. Whether the mend took the other in, and the count.
+fn prepared_before_a_mend(alloc: Global, k: u32) -> Result<(bool, u64), Fail> {
+    let (mut log, mut disk) = failed_put(alloc, k)?;
+    let prepared = log.prepare(alloc, b"cd")?;
+    let is_in = log.mend(&mut disk)?;
+    let count = log.put_prepared(&mut disk, &prepared)?;
+    let body = body_of(alloc, &log, &mut disk, count.saturating_sub(1))?.ok_or("no record")?;
+    if body.as_slice() != b"cd".as_slice() {
+        return Err("another record")?;
+    }
+    Ok((is_in, count))
+}
+
+#[test]
+fn a_prepared_record_is_put_after_a_mend(rt: HostRuntime) -> Result<(), Fail> {
+    let alloc = rt.alloc();
+    assert_eq!(rt; prepared_before_a_mend(alloc, 1)?, (false, 2));
+    assert_eq!(rt; prepared_before_a_mend(alloc, 3)?, (true, 3));
+    Ok(())
+}
+
+#[test]
+fn a_start_that_failed_is_begun_again(rt: HostRuntime) -> Result<(), Fail> {
+    let alloc = rt.alloc();
+    let mut disk = OneFile::of(alloc, b"")?;
+    disk.fail_at(2);
+    let first = RecordLog::start(alloc, &mut disk, FILE, 1000).err();
+    assert_eq!(rt; first, Some(LogFault::Failed));
+    disk.fail_at(NEVER);
+    let log = RecordLog::start(alloc, &mut disk, FILE, 1000)?;
+    assert_eq!(rt; log.count(), 0);
+    assert_eq!(rt; disk.stored.as_slice(), [0].as_slice());
     Ok(())
 }

@@ -1,6 +1,7 @@
 //! A write that is on the disk when it returns.
 ghost use Rattle.std.specs.Prelude.{length, OnOk, OnErr};
-ghost use Rattle.disk_core.specs.Disk.{IsCounted, IsPerhapsWritten};
+ghost use Rattle.base_core.specs.Faults.{IsCounted};
+ghost use Rattle.disk_core.specs.Disk.{IsPerhapsWritten};
 ghost use Rattle.record_log.specs.Through.{IsWrittenThrough};
 
 use disk_core::{Disk, Failed};
