@@ -1,6 +1,6 @@
 -- Two readings of the same bytes agree as far as both go.
 use Rattle.std.proofs.Common.{◌≡◌, ℕ, suc, ◌+◌, ◌<◌, ◌≤◌, ◌^◌, List, [], ◌∷◌, ◌++◌, length, sym, ◌∙◌, ap, subst, append_assoc, length-append, arith}
-use Rattle.std.specs.Int.{w32, to_be_bytes}
+use Rattle.base_core.specs.Numbers.{length_bytes}
 use Rattle.std.specs.List.{flat_map, AllByRecursion}
 use Rattle.std.proofs.lemmas.List.{append-nil}
 use Rattle.term_core.specs.declared.term.Term.{Term}
@@ -54,8 +54,8 @@ pub terms_agree : (bytes : List ℕ) (kind other : Kind) (count size : ℕ) (ter
     → SameHead kind other count size (flat_map term_field terms ++ us) (flat_map term_field more ++ vs)
 terms_agree bytes kind other count size terms more us vs one two =
     let whole : head_and_terms kind count terms ++ us ≡ head_and_terms other size more ++ vs = sym one.cut ∙ two.cut in
-    let kinds = rest_same 1 1 (kind_byte kind ∷ (to_be_bytes w32 count ++ (flat_map term_field terms ++ us))) (kind_byte other ∷ (to_be_bytes w32 size ++ (flat_map term_field more ++ vs))) whole in
-    let counts = rest_same (kind_byte kind) (kind_byte other) (to_be_bytes w32 count ++ (flat_map term_field terms ++ us)) (to_be_bytes w32 size ++ (flat_map term_field more ++ vs)) kinds in
+    let kinds = rest_same 1 1 (kind_byte kind ∷ (length_bytes count ++ (flat_map term_field terms ++ us))) (kind_byte other ∷ (length_bytes size ++ (flat_map term_field more ++ vs))) whole in
+    let counts = rest_same (kind_byte kind) (kind_byte other) (length_bytes count ++ (flat_map term_field terms ++ us)) (length_bytes size ++ (flat_map term_field more ++ vs)) kinds in
     let numbers = number_same count size _ _ one.fits two.fits counts in
     record {
       kind_is = kind_same kind other (first_same (kind_byte kind) (kind_byte other) _ _ kinds);
@@ -74,12 +74,12 @@ terms_front bytes kind other count size terms more us vs one two long =
 -- ---- statements
 
 abbrev pub statements_behind : List Places → ℕ → List ℕ → List ℕ
-statements_behind placed count rest = to_be_bytes w32 count ++ (flat_map statement_field placed ++ rest)
+statements_behind placed count rest = length_bytes count ++ (flat_map statement_field placed ++ rest)
 
 pub begin_terms : (bytes : List ℕ) (kind : Kind) (terms : List Term) (count : ℕ) (placed : List Places) (rest : List ℕ)
     → BeginWithStatements bytes kind terms count placed rest → BeginWithTerms bytes kind (length terms) terms (statements_behind placed count rest)
 begin_terms bytes kind terms count placed rest begin = record {
-  cut = begin.cut ∙ append_assoc (head_and_terms kind (length terms) terms) (to_be_bytes w32 count ++ flat_map statement_field placed) rest;
+  cut = begin.cut ∙ append_assoc (head_and_terms kind (length terms) terms) (length_bytes count ++ flat_map statement_field placed) rest;
   fits = begin.fits;
   are = begin.are;
 }

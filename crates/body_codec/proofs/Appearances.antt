@@ -7,7 +7,7 @@ use Rattle.std.proofs.lemmas.List.{append-nil, take_all}
 use Rattle.std.proofs.lemmas.Option.{slice_get_within}
 use Rattle.term_core.specs.declared.term.Term.{Term}
 use Rattle.term_core.specs.declared.statement.Statement.{Statement}
-use Rattle.term_core.specs.Lists.{Has, AreDistinct}
+use Rattle.base_core.specs.Lists.{Has, AreDistinct}
 use Rattle.term_core.specs.Term.{IsStatement}
 use Rattle.change_model.specs.declared.vocabulary.Places.{Places}
 use Rattle.change_model.specs.Entries.{IsPlaced, ArePlaced}

@@ -1,18 +1,19 @@
 -- A change that has a body, and the fields of its body.
-use Rattle.std.proofs.Common.{◌≡◌, ℕ, suc, ◌+◌, ◌*◌, ◌<◌, ◌≤◌, ◌^◌, Bool, true, false, List, [], ◌∷◌, ◌++◌, length, Some, inl, inr, refl, sym, ◌∙◌, ap, subst, arith}
+use Rattle.std.proofs.Common.{◌≡◌, ℕ, suc, ◌+◌, ◌*◌, ◌<◌, ◌≤◌, ◌^◌, Bool, true, false, List, [], ◌∷◌, ◌++◌, map, length, Some, inl, inr, refl, sym, ◌∙◌, ap, subst, arith}
 use Rattle.std.specs.Prelude.{if◌then◌else◌}
 use Rattle.std.specs.List.{slice_get, list_any, AllByRecursion}
 use Rattle.std.proofs.lemmas.List.{append-nil}
 use Rattle.std.proofs.lemmas.Option.{same_Some}
 use Rattle.term_core.specs.declared.term.Term.{Term}
 use Rattle.term_core.specs.declared.statement.Statement.{Statement}
-use Rattle.term_core.specs.Lists.{Has, AreDistinct}
-use Rattle.term_core.proofs.Spelling.{HasShortForm-from_IsTerm}
+use Rattle.base_core.specs.Lists.{Has, AreDistinct}
+use Rattle.term_core.specs.Spelling.{spelling}
 use Rattle.term_core.specs.Term.{IsStatement, MayBeSubject, MayBePredicate}
 use Rattle.change_model.specs.declared.history.Change.{Change}
 use Rattle.change_model.specs.declared.history.Kind.{Kind}
 use Rattle.change_model.specs.declared.vocabulary.Places.{Places}
-use Rattle.change_model.specs.Entries.{ArePlaced}
+use Rattle.change_model.specs.declared.vocabulary.Vocabulary.{Vocabulary}
+use Rattle.change_model.specs.Entries.{ArePlaced, IsVocabularyOf}
 use Rattle.change_model.specs.Lexicon.{same_term, with_term, with_terms, terms_of}
 use Rattle.change_model.proofs.Lexicons.{AreWith-all}
 use Rattle.change_model.proofs.Members.{at_place, each_of, one_place, length-one_more}
@@ -22,7 +23,7 @@ use Rattle.body_codec.specs.Writing.{IsShort}
 use Rattle.body_codec.specs.Reading.{AreAllStatements}
 use Rattle.body_codec.proofs.Appearances.{terms_by_appearance, places_in_turn}
 use Rattle.body_codec.proofs.Cuts.{same_places}
-use Rattle.body_codec.proofs.Elements.{All-from_each, All-like}
+use Rattle.body_codec.proofs.Elements.{All-from_each}
 
 -- the bytes are a whole body: all fields stand and keep their rules, all terms are used, and nothing follows
 pub record IsWhole (bytes : List ℕ) (kind : Kind) (terms : List Term) (placed : List Places) : Type 0 where
@@ -71,10 +72,15 @@ change_terms kind terms statements is all =
     All-from_each (IsTermOf kind) terms (λ term h. terms_each kind statements all term (subst (λ l. Has l term) is h))
 
 -- the lengths of their spellings fit
-pub short_terms : (change : Change) (terms : List Term) → terms ≡ with_terms [] (terms_of change.statements) → HasSpelling change → AllByRecursion IsShort terms
-short_terms change terms is has =
-    All-like (IsTermOf change.kind) IsShort (λ term of. record { form = HasShortForm-from_IsTerm term of.is; whole = of.short })
-    terms (change_terms change.kind terms change.statements is has.terms)
+spellings_short : (kind : Kind) (terms : List Term) → AllByRecursion (IsTermOf kind) terms → AllByRecursion IsShort (map spelling terms)
+spellings_short kind [] all = tt
+spellings_short kind (term ∷ terms) all = (all.0.short, spellings_short kind terms all.1)
+
+pub short_spellings : (change : Change) (vocabulary : Vocabulary) → IsVocabularyOf change.statements vocabulary → HasSpelling change
+    → AllByRecursion IsShort vocabulary.spellings
+short_spellings change vocabulary is has =
+    let all = change_terms change.kind vocabulary.terms change.statements is.terms has.terms in
+    subst (λ (l : List (List ℕ)). AllByRecursion IsShort l) (sym is.spellings) (spellings_short change.kind vocabulary.terms all)
 
 pub whole_of : (change : Change) (bytes : List ℕ) → HasSpelling change → (is : IsBodyOf change bytes)
     → IsWhole bytes change.kind is.vocabulary.terms is.vocabulary.places
@@ -138,8 +144,8 @@ change_of bytes kind terms rest statements begin all =
     record {
       has = record { triples = good.triples; few = omega arith; terms = good.terms };
       is = record {
-        vocabulary = record { terms = terms; places = all.places };
-        vocabulary_is = record { terms = terms_by_appearance terms statements all.places begin.are.apart all.placed all.placings all.used; places = all.placed };
+        vocabulary = record { terms = terms; spellings = map spelling terms; places = all.places };
+        vocabulary_is = record { terms = terms_by_appearance terms statements all.places begin.are.apart all.placed all.placings all.used; spellings = refl; places = all.placed };
         spelled = begin.cut ∙ ap (λ l. head_and_terms kind (length terms) terms ++ l) all.cut;
       };
     }

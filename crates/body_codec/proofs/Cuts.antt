@@ -1,6 +1,7 @@
 -- A field tells where it ends, and so do many: two cuts of the same bytes agree as far as both go.
 use Rattle.std.proofs.Common.{◌≡◌, ℕ, ◌<◌, ◌≤◌, ◌^◌, List, [], ◌∷◌, ◌++◌, length, refl, sym, ◌∙◌, ap, append_assoc, arith}
-use Rattle.std.specs.Int.{w32, to_be_bytes, from_be_bytes}
+use Rattle.std.specs.Int.{w32, from_be_bytes}
+use Rattle.base_core.specs.Numbers.{length_bytes}
 use Rattle.std.specs.List.{flat_map, AllByRecursion}
 use Rattle.std.proofs.lemmas.Nat.{from_be_bytes-to_be_bytes_4}
 use Rattle.std.proofs.lemmas.Option.{slice_get_within}
@@ -13,10 +14,10 @@ use Rattle.change_model.specs.declared.vocabulary.Places.{Places}
 use Rattle.body_codec.specs.Body.{kind_byte, term_field, statement_field, IsTermOf, NamesA, NameTerms, ArePlacings, numbers}
 use Rattle.body_codec.specs.Reading.{AreSmall}
 
-pub number_same : (one other : ℕ) (us vs : List ℕ) → one < 2 ^ 32 → other < 2 ^ 32 → to_be_bytes w32 one ++ us ≡ to_be_bytes w32 other ++ vs
+pub number_same : (one other : ℕ) (us vs : List ℕ) → one < 2 ^ 32 → other < 2 ^ 32 → length_bytes one ++ us ≡ length_bytes other ++ vs
     → (one ≡ other) × (us ≡ vs)
 number_same one other us vs low small e =
-    let parts = parts_same (to_be_bytes w32 one) (to_be_bytes w32 other) us vs refl e in (
+    let parts = parts_same (length_bytes one) (length_bytes other) us vs refl e in (
       sym (from_be_bytes-to_be_bytes_4 one low) ∙ ap (from_be_bytes w32) parts.0 ∙ from_be_bytes-to_be_bytes_4 other small,
       parts.1,
     )
@@ -24,8 +25,8 @@ number_same one other us vs low small e =
 pub term_same : (kind : Kind) (one other : Term) (us vs : List ℕ) → IsTermOf kind one → IsTermOf kind other → term_field one ++ us ≡ term_field other ++ vs
     → (one ≡ other) × (us ≡ vs)
 term_same kind one other us vs is also e =
-    let outer : to_be_bytes w32 (length (spelling one)) ++ (spelling one ++ us) ≡ to_be_bytes w32 (length (spelling other)) ++ (spelling other ++ vs) =
-    sym (append_assoc (to_be_bytes w32 (length (spelling one))) (spelling one) us) ∙ e ∙ append_assoc (to_be_bytes w32 (length (spelling other))) (spelling other) vs in
+    let outer : length_bytes (length (spelling one)) ++ (spelling one ++ us) ≡ length_bytes (length (spelling other)) ++ (spelling other ++ vs) =
+    sym (append_assoc (length_bytes (length (spelling one))) (spelling one) us) ∙ e ∙ append_assoc (length_bytes (length (spelling other))) (spelling other) vs in
     let size = number_same _ _ (spelling one ++ us) (spelling other ++ vs) is.short also.short outer in
     let parts = parts_same (spelling one) (spelling other) us vs size.0 size.1 in
     (spelling_same one other is.is also.is parts.0, parts.1)

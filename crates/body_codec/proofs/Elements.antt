@@ -4,7 +4,7 @@ use Rattle.std.specs.Prelude.{IfSome, IfNone}
 use Rattle.std.specs.List.{flat_map, slice_get, AllByRecursion}
 use Rattle.std.proofs.lemmas.List.{append-nil}
 use Rattle.std.proofs.lemmas.Option.{none-some}
-use Rattle.term_core.specs.Lists.{Has}
+use Rattle.base_core.specs.Lists.{Has}
 
 flat_map-one_more : {A B : Type 0} → (f : A → List B) (xs : List A) (x : A) → flat_map f (xs ++ x ∷ []) ≡ flat_map f xs ++ f x
 flat_map-one_more f [] x = append-nil (f x)
@@ -23,10 +23,6 @@ All-push P (y ∷ xs) x all here = (all.0, All-push P xs x all.1 here)
 pub All-from_each : {A : Type 0} (P : A → Type 0) → (xs : List A) → ((x : A) → Has xs x → P x) → AllByRecursion P xs
 All-from_each P [] each = tt
 All-from_each P (x ∷ xs) each = (each x (inl refl), All-from_each P xs (λ y h. each y (inr h)))
-
-pub All-like : {A : Type 0} (P Q : A → Type 0) → ((x : A) → P x → Q x) → (xs : List A) → AllByRecursion P xs → AllByRecursion Q xs
-All-like P Q turn [] all = tt
-All-like P Q turn (x ∷ xs) all = (turn x all.0, All-like P Q turn xs all.1)
 
 pub All-append : {A : Type 0} (P : A → Type 0) → (xs ys : List A) → AllByRecursion P (xs ++ ys) → AllByRecursion P xs × AllByRecursion P ys
 All-append P [] ys all = (tt, all)

@@ -5,6 +5,7 @@ mod Cuts
 mod Elements
 mod Refusals
 mod Seen
+mod Sizes
 mod Stages
 mod Steps
 mod Turns

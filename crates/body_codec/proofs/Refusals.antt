@@ -9,10 +9,10 @@ use Rattle.change_model.specs.declared.vocabulary.Places.{Places}
 use Rattle.change_model.specs.Entries.{ArePlaced}
 use Rattle.change_model.proofs.Terms.{same_statement}
 use Rattle.body_codec.specs.Body.{HasSpelling, IsBodyOf}
-use Rattle.body_codec.specs.Faults.{IsFirstBadField, IsNoMemory, IsNoMemoryOrAt, HasCause}
+use Rattle.body_codec.specs.Faults.{IsFirstBadField, IsNoMemory, IsNoMemoryOrAt, IsBodyFault}
 use Rattle.body_codec.specs.declared.fault.BodyFault.{BodyFault}
 use Rattle.body_codec.specs.declared.fault.BodyFault.TheVariants.{NoMemory, BadBody}
-use Rattle.body_codec.specs.Reading.{IsBadAt}
+use Rattle.body_codec.specs.Reading.{IsBadBodyAt}
 use Rattle.body_codec.proofs.Agree.{statements_agree}
 use Rattle.body_codec.proofs.Changes.{IsWhole, whole_of}
 use Rattle.body_codec.proofs.Stages.{AllStand, EndBad, term_unused, bytes_left, stage_of, not_earlier, none_unused, all_alike, one_bad_field}
@@ -34,15 +34,15 @@ bad_is_no_body bytes at bad change has is = no_whole bytes at _ _ _ bad (whole_o
 
 -- ---- what the fault of the reader tells
 
-pub bad_has_cause : (bytes : List ℕ) (fault : BodyFault) → IsBadAt bytes fault → HasCause bytes fault
+pub bad_has_cause : (bytes : List ℕ) (fault : BodyFault) → IsBadBodyAt bytes fault → IsBodyFault bytes fault
 bad_has_cause bytes NoMemory bad = tt
 bad_has_cause bytes (BadBody at) bad = (bad, bad_is_no_body bytes at bad)
 
-pub bad_is_no_want : (bytes : List ℕ) (fault : BodyFault) → IsBadAt bytes fault → (change : Change) → HasSpelling change → IsBodyOf change bytes → IsNoMemory fault
+pub bad_is_no_want : (bytes : List ℕ) (fault : BodyFault) → IsBadBodyAt bytes fault → (change : Change) → HasSpelling change → IsBodyOf change bytes → IsNoMemory fault
 bad_is_no_want bytes NoMemory bad change has is = tt
 bad_is_no_want bytes (BadBody at) bad change has is = bad_is_no_body bytes at bad change has is
 
-pub bad_is_here : (bytes : List ℕ) (fault : BodyFault) → IsBadAt bytes fault → (at : ℕ) → IsFirstBadField bytes at → IsNoMemoryOrAt at fault
+pub bad_is_here : (bytes : List ℕ) (fault : BodyFault) → IsBadBodyAt bytes fault → (at : ℕ) → IsFirstBadField bytes at → IsNoMemoryOrAt at fault
 bad_is_here bytes NoMemory bad at is = tt
 bad_is_here bytes (BadBody place) bad at is = one_bad_field bytes place at bad is
 

@@ -1,11 +1,11 @@
 -- How far the fields of bytes keep their rules: a bad field lies in the head, among the terms, at the count of the
 -- statements, or among these and behind them. No field further on is reached, so bytes have at most one first bad field.
 use Rattle.std.proofs.Common.{◌≡◌, ◌≢◌, ℕ, ◌+◌, ◌<◌, ◌≤◌, List, [], ◌∷◌, ◌++◌, length, refl, sym, ◌∙◌, ap, subst, append_assoc, length-append, inl, inr, arith}
-use Rattle.std.specs.Int.{w32, to_be_bytes}
+use Rattle.base_core.specs.Numbers.{length_bytes}
 use Rattle.std.specs.List.{flat_map, AllByRecursion}
 use Rattle.std.proofs.lemmas.Bool.{cases_lt}
 use Rattle.term_core.specs.declared.term.Term.{Term}
-use Rattle.term_core.specs.Lists.{Has, AreDistinct}
+use Rattle.base_core.specs.Lists.{Has, AreDistinct}
 use Rattle.term_core.specs.Spelling.{spelling}
 use Rattle.term_core.proofs.Spelling.{rest_same}
 use Rattle.change_model.specs.declared.history.Kind.{Kind}
@@ -42,7 +42,7 @@ head_none : (bytes : List ℕ) (at : ℕ) (kind : Kind) (count : ℕ) (terms : L
 head_none bytes at kind count terms rest (format_bad place none) begin = none _ begin.cut
 head_none bytes at kind count terms rest (kind_bad behind cut place none) begin = none kind _ (rest_same 1 1 behind _ (sym cut ∙ begin.cut))
 head_none bytes at kind count terms rest (count_bad other behind cut place short) begin =
-    let kinds = rest_same 1 1 (kind_byte other ∷ behind) (kind_byte kind ∷ (to_be_bytes w32 count ++ (flat_map term_field terms ++ rest))) (sym cut ∙ begin.cut) in
+    let kinds = rest_same 1 1 (kind_byte other ∷ behind) (kind_byte kind ∷ (length_bytes count ++ (flat_map term_field terms ++ rest))) (sym cut ∙ begin.cut) in
     let counts = ap length (rest_same _ _ behind _ kinds) in
     absurd (omega arith)
 
@@ -77,7 +77,7 @@ no_bad_term : (kind : Kind) (terms : List Term) (rest : List ℕ) (offset at : �
     → rest ≡ term_field next ++ behind → IsTermOf kind next → (Has terms next → ⊥) → ⊥
 no_bad_term kind terms rest offset at next behind (no_length place short) field is new = let long = ap length field in absurd (omega arith)
 no_bad_term kind terms rest offset at next behind (no_spelling size tail cut fits place none) field is new =
-    let split = append_assoc (to_be_bytes w32 (length (spelling next))) (spelling next) behind in
+    let split = append_assoc (length_bytes (length (spelling next))) (spelling next) behind in
     let sizes = number_same size (length (spelling next)) tail (spelling next ++ behind) fits is.short (sym cut ∙ field ∙ split) in
     none (record { term = next; behind = behind; is = is; long = sym sizes.0; new = new; cut = sizes.1 })
 
@@ -132,7 +132,7 @@ pub record CountBad (bytes : List ℕ) (at : ℕ) : Type 0 where
   pub rest : List ℕ
   pub begin : BeginWithTerms bytes kind (length terms) terms rest
   pub place : at ≡ length (head_and_terms kind (length terms) terms)
-  pub none : (count : ℕ) (behind : List ℕ) → count ≤ 100000 → rest ≢ to_be_bytes w32 count ++ behind
+  pub none : (count : ℕ) (behind : List ℕ) → count ≤ 100000 → rest ≢ length_bytes count ++ behind
 
 -- two readings of all terms
 all_terms : (bytes : List ℕ) (kind other : Kind) (terms more : List Term) (rest behind : List ℕ) → BeginWithTerms bytes kind (length terms) terms rest
@@ -166,7 +166,7 @@ pub record StatementBad (bytes : List ℕ) (at : ℕ) : Type 0 where
   pub rest : List ℕ
   pub begin : BeginWithStatements bytes kind terms count placed rest
   pub fewer : length placed < count
-  pub place : at ≡ length (head_and_terms kind (length terms) terms ++ (to_be_bytes w32 count ++ flat_map statement_field placed))
+  pub place : at ≡ length (head_and_terms kind (length terms) terms ++ (length_bytes count ++ flat_map statement_field placed))
   pub none : (next : Places) (behind : List ℕ) → IsPlacing terms (named placed) next → rest ≢ statement_field next ++ behind
 
 placing_next : (terms : List Term) (placed : List Places) (next : Places) (more all : List Places) → all ≡ placed ++ next ∷ more → ArePlacings terms [] all
@@ -215,13 +215,13 @@ all_alike bytes kind other terms more placed ones us vs one two =
     (statements_agree bytes kind other terms more (length placed) (length ones) placed ones us vs one two).count_is
 
 end_same : (kind other : Kind) (terms more : List Term) (placed ones : List Places) (count size : ℕ) → terms ≡ more → placed ≡ ones
-    → length (head_and_terms kind (length terms) terms ++ (to_be_bytes w32 count ++ flat_map statement_field placed))
-    ≡ length (head_and_terms other (length more) more ++ (to_be_bytes w32 size ++ flat_map statement_field ones))
+    → length (head_and_terms kind (length terms) terms ++ (length_bytes count ++ flat_map statement_field placed))
+    ≡ length (head_and_terms other (length more) more ++ (length_bytes size ++ flat_map statement_field ones))
 end_same kind other terms more placed ones count size same alike =
     let front = ap (λ (l : List Term). length (flat_map term_field l)) same in
     let back = ap (λ (l : List Places). length (flat_map statement_field l)) alike in
-    let mine = length-append (head_and_terms kind (length terms) terms) (to_be_bytes w32 count ++ flat_map statement_field placed) in
-    let yours = length-append (head_and_terms other (length more) more) (to_be_bytes w32 size ++ flat_map statement_field ones) in
+    let mine = length-append (head_and_terms kind (length terms) terms) (length_bytes count ++ flat_map statement_field placed) in
+    let yours = length-append (head_and_terms other (length more) more) (length_bytes size ++ flat_map statement_field ones) in
     omega arith
 
 statement_same : (bytes : List ℕ) (a b : ℕ) → StatementBad bytes a → StatementBad bytes b → a ≡ b
@@ -292,7 +292,7 @@ stage_of bytes at (short_count kind rest cut place short) = in_head (count_bad k
 stage_of bytes at (short_length kind count terms rest begin fewer place short) =
     in_terms (record { kind = kind; count = count; terms = terms; rest = rest; begin = begin; fewer = fewer; bad = no_length place short })
 stage_of bytes at (wrong_spelling kind count terms size rest begin fewer fits place none) =
-    in_terms (record { kind = kind; count = count; terms = terms; rest = to_be_bytes w32 size ++ rest; begin = begin; fewer = fewer; bad = no_spelling size rest refl fits place none })
+    in_terms (record { kind = kind; count = count; terms = terms; rest = length_bytes size ++ rest; begin = begin; fewer = fewer; bad = no_spelling size rest refl fits place none })
 stage_of bytes at (wrong_count kind terms rest begin place none) =
     in_count (record { kind = kind; terms = terms; rest = rest; begin = begin; place = place; none = none })
 stage_of bytes at (wrong_statement kind terms count placed rest begin fewer place none) =

@@ -1,12 +1,12 @@
 -- What the functions that read a body find, step by step.
 use Rattle.std.proofs.Common.{◌≡◌, ◌≢◌, ℕ, ◌+◌, ◌<◌, ◌≤◌, ◌^◌, List, [], ◌∷◌, ◌++◌, length, take, ◌⊎◌, ◌↔◌, Some, true, false, eqb, eqb-true, refl, sym, ◌∙◌, ap, subst, append_assoc, length-append, arith}
-use Rattle.std.specs.Int.{w32, to_be_bytes}
+use Rattle.base_core.specs.Numbers.{length_bytes}
 use Rattle.std.specs.List.{flat_map, AllByRecursion}
 use Rattle.std.proofs.lemmas.Bool.{false≢true}
 use Rattle.std.proofs.lemmas.List.{append-nil, take_at, nil_from_length}
 use Rattle.term_core.specs.declared.term.Term.{Term}
 use Rattle.term_core.specs.declared.statement.Statement.{Statement}
-use Rattle.term_core.specs.Lists.{Has}
+use Rattle.base_core.specs.Lists.{Has}
 use Rattle.term_core.specs.Spelling.{spelling}
 use Rattle.term_core.proofs.Spelling.{first_same}
 use Rattle.change_model.specs.declared.history.Kind.{Kind}
@@ -18,7 +18,7 @@ use Rattle.body_codec.specs.declared.fault.BodyFault.TheVariants.{NoMemory, BadB
 use Rattle.body_codec.specs.declared.read_statements.Named.{Named}
 use Rattle.body_codec.specs.Body.{kind_byte, term_field, statement_field, head_and_terms, numbers, named, IsTermOf, AreTermsOf, NameTerms, IsPlacing, ArePlacings}
 use Rattle.body_codec.specs.Faults.{BeginWithTerms, BeginWithStatements, BeginsWithTerm, IsFirstBadField, wrong_kind, short_count, short_length, wrong_spelling, wrong_count, wrong_statement, unused_term, byte_too_many}
-use Rattle.body_codec.specs.Reading.{IsBadAt, IsBadTerm, IsBadTermAt, no_length, no_spelling, IsNoTermAt, AreSpellings, IsNext, AreNamed, IsStatementOf, AreSmall, AreReadStatements, IsBadStatement, IsBadStatementAt, AreAllStatements}
+use Rattle.body_codec.specs.Reading.{IsBadBodyAt, IsBadTerm, IsBadTermAt, no_length, no_spelling, IsNoTermAt, AreSpellings, IsNext, AreNamed, IsStatementOf, AreSmall, AreReadStatements, IsBadStatement, IsBadStatementAt, AreAllStatements}
 use Rattle.body_codec.proofs.Changes.{ArePlaced-length}
 use Rattle.body_codec.proofs.Cuts.{number_same, statement_same, NameTerms-small}
 use Rattle.body_codec.proofs.Elements.{cut_more, All-push}
@@ -39,7 +39,7 @@ no_count bytes kind rest behind byte cut is known short =
 
 -- ---- a term
 
-pub spelling_short : (kind : Kind) (before : List Term) (bytes : List ℕ) (at size : ℕ) (rest : List ℕ) → bytes ≡ to_be_bytes w32 size ++ rest → size < 2 ^ 32
+pub spelling_short : (kind : Kind) (before : List Term) (bytes : List ℕ) (at size : ℕ) (rest : List ℕ) → bytes ≡ length_bytes size ++ rest → size < 2 ^ 32
     → length rest < size → IsBadTerm kind before bytes at (at + 4)
 spelling_short kind before bytes at size rest cut fits short =
     no_spelling size rest cut fits refl (λ begins.
@@ -54,13 +54,13 @@ spelled_is kind before size rest spelled front begins =
     front ∙ ap (take size) begins.cut ∙ take_at (spelling begins.term) begins.behind size begins.long
 
 pub no_term_here : (kind : Kind) (before : List Term) (bytes : List ℕ) (at size : ℕ) (rest spelled : List ℕ) (fault : BodyFault)
-    → bytes ≡ to_be_bytes w32 size ++ rest → size < 2 ^ 32 → spelled ≡ take size rest → IsNoTermAt kind spelled (at + 4) fault → IsBadTermAt kind before bytes at fault
+    → bytes ≡ length_bytes size ++ rest → size < 2 ^ 32 → spelled ≡ take size rest → IsNoTermAt kind spelled (at + 4) fault → IsBadTermAt kind before bytes at fault
 no_term_here kind before bytes at size rest spelled NoMemory cut fits front bad = tt
 no_term_here kind before bytes at size rest spelled (BadBody place) cut fits front bad =
     no_spelling size rest cut fits bad.0 (λ begins. bad.1 begins.term begins.is (spelled_is kind before size rest spelled front begins))
 
 pub term_twice : (kind : Kind) (before : List Term) (keys : List (List ℕ)) (bytes : List ℕ) (at size : ℕ) (rest spelled : List ℕ)
-    → bytes ≡ to_be_bytes w32 size ++ rest → size < 2 ^ 32 → spelled ≡ take size rest → AllByRecursion (IsTermOf kind) before → AreSpellings before keys → Has keys spelled
+    → bytes ≡ length_bytes size ++ rest → size < 2 ^ 32 → spelled ≡ take size rest → AllByRecursion (IsTermOf kind) before → AreSpellings before keys → Has keys spelled
     → IsBadTerm kind before bytes at (at + 4)
 term_twice kind before keys bytes at size rest spelled cut fits front all are seen =
     no_spelling size rest cut fits refl (λ begins.
@@ -91,7 +91,7 @@ terms_more kind bytes terms all term old new rest behind cut are seen is field f
 begin_of : (kind : Kind) (count : ℕ) (bytes : List ℕ) (terms : List Term) (rest : List ℕ) → count < 2 ^ 32 → bytes ≡ flat_map term_field terms ++ rest → AreTermsOf kind terms
     → BeginWithTerms (head_and_terms kind count [] ++ bytes) kind count terms rest
 begin_of kind count bytes terms rest fits cut are = record {
-  cut = ap (λ l. 1 ∷ kind_byte kind ∷ (to_be_bytes w32 count ++ l)) cut;
+  cut = ap (λ l. 1 ∷ kind_byte kind ∷ (length_bytes count ++ l)) cut;
   fits = fits;
   are = are;
 }
@@ -103,7 +103,7 @@ offset_of count kind bytes terms rest at cut place =
     omega arith
 
 bad_term : (whole : List ℕ) (kind : Kind) (count : ℕ) (terms : List Term) (rest : List ℕ) (at : ℕ) (fault : BodyFault) → BeginWithTerms whole kind count terms rest
-    → length terms < count → at ≡ length (head_and_terms kind count terms) → IsBadTermAt kind terms rest at fault → IsBadAt whole fault
+    → length terms < count → at ≡ length (head_and_terms kind count terms) → IsBadTermAt kind terms rest at fault → IsBadBodyAt whole fault
 bad_term whole kind count terms rest at NoMemory begin fewer offset bad = tt
 bad_term whole kind count terms rest at (BadBody place) begin fewer offset (no_length is short) =
     short_length kind count terms rest begin fewer (is ∙ offset) short
@@ -114,7 +114,7 @@ bad_term whole kind count terms rest at (BadBody place) begin fewer offset (no_s
 
 pub bad_term_of : (kind : Kind) (count : ℕ) (bytes : List ℕ) (terms : List Term) (rest : List ℕ) (at : ℕ) (fault : BodyFault) → count < 2 ^ 32
     → bytes ≡ flat_map term_field terms ++ rest → AreTermsOf kind terms → length terms < count → at + length rest ≡ length bytes + 6
-    → IsBadTermAt kind terms rest at fault → IsBadAt (head_and_terms kind count [] ++ bytes) fault
+    → IsBadTermAt kind terms rest at fault → IsBadBodyAt (head_and_terms kind count [] ++ bytes) fault
 bad_term_of kind count bytes terms rest at fault fits cut are fewer place bad =
     bad_term _ kind count terms rest at fault (begin_of kind count bytes terms rest fits cut are) fewer (offset_of count kind bytes terms rest at cut place) bad
 
@@ -192,17 +192,17 @@ no_number whole kind terms bytes at begin offset short =
     wrong_count kind terms bytes begin offset (λ count behind few e. let long = ap length e in absurd (omega arith))
 
 pub too_many : (whole : List ℕ) (kind : Kind) (terms : List Term) (bytes : List ℕ) (at count : ℕ) (rest : List ℕ) → BeginWithTerms whole kind (length terms) terms bytes
-    → at ≡ length (head_and_terms kind (length terms) terms) → bytes ≡ to_be_bytes w32 count ++ rest → count < 2 ^ 32 → 100000 < count → IsFirstBadField whole at
+    → at ≡ length (head_and_terms kind (length terms) terms) → bytes ≡ length_bytes count ++ rest → count < 2 ^ 32 → 100000 < count → IsFirstBadField whole at
 too_many whole kind terms bytes at count rest begin offset cut fits many =
     wrong_count kind terms bytes begin offset (λ other behind few e.
     let same = (number_same count other rest behind fits (omega arith) (sym cut ∙ e)).0 in absurd (omega arith))
 
 begin_statements : (whole : List ℕ) (kind : Kind) (terms : List Term) (bytes : List ℕ) (count : ℕ) (places : List Places) (rest behind : List ℕ)
-    → BeginWithTerms whole kind (length terms) terms bytes → bytes ≡ to_be_bytes w32 count ++ rest → count ≤ 100000
+    → BeginWithTerms whole kind (length terms) terms bytes → bytes ≡ length_bytes count ++ rest → count ≤ 100000
     → rest ≡ flat_map statement_field places ++ behind → ArePlacings terms [] places → BeginWithStatements whole kind terms count places behind
 begin_statements whole kind terms bytes count places rest behind begin cut few fields placings = record {
-  cut = begin.cut ∙ ap (λ l. head_and_terms kind (length terms) terms ++ l) (cut ∙ ap (λ l. to_be_bytes w32 count ++ l) fields)
-      ∙ sym (append_assoc (head_and_terms kind (length terms) terms) (to_be_bytes w32 count ++ flat_map statement_field places) behind);
+  cut = begin.cut ∙ ap (λ l. head_and_terms kind (length terms) terms ++ l) (cut ∙ ap (λ l. length_bytes count ++ l) fields)
+      ∙ sym (append_assoc (head_and_terms kind (length terms) terms) (length_bytes count ++ flat_map statement_field places) behind);
   fits = begin.fits;
   few = few;
   are = begin.are;
@@ -211,25 +211,25 @@ begin_statements whole kind terms bytes count places rest behind begin cut few f
 
 pub bad_statement_at : (whole : List ℕ) (kind : Kind) (terms : List Term) (bytes : List ℕ) (at count : ℕ) (rest : List ℕ) (fault : BodyFault)
     → BeginWithTerms whole kind (length terms) terms bytes → at ≡ length (head_and_terms kind (length terms) terms)
-    → bytes ≡ to_be_bytes w32 count ++ rest → count ≤ 100000 → IsBadStatementAt terms count rest (at + 4) fault → IsBadAt whole fault
+    → bytes ≡ length_bytes count ++ rest → count ≤ 100000 → IsBadStatementAt terms count rest (at + 4) fault → IsBadBodyAt whole fault
 bad_statement_at whole kind terms bytes at count rest NoMemory begin offset cut few bad = tt
 bad_statement_at whole kind terms bytes at count rest (BadBody place) begin offset cut few bad =
-    let long = length-append (head_and_terms kind (length terms) terms) (to_be_bytes w32 count ++ flat_map statement_field bad.places) in
+    let long = length-append (head_and_terms kind (length terms) terms) (length_bytes count ++ flat_map statement_field bad.places) in
     let place_is = bad.place_is in
     wrong_statement kind terms count bad.places bad.rest (begin_statements whole kind terms bytes count bad.places rest bad.rest begin cut few bad.cut bad.placings) bad.fewer
     (omega arith) bad.bad
 
 -- all statements were read
 read_all : (whole : List ℕ) (kind : Kind) (terms : List Term) (bytes : List ℕ) (count : ℕ) (rest : List ℕ) (statements : List Statement) (next : ℕ) (behind : List ℕ)
-    → BeginWithTerms whole kind (length terms) terms bytes → bytes ≡ to_be_bytes w32 count ++ rest → count ≤ 100000
+    → BeginWithTerms whole kind (length terms) terms bytes → bytes ≡ length_bytes count ++ rest → count ≤ 100000
     → (read : AreReadStatements terms rest statements next behind) → length statements ≡ count
     → BeginWithStatements whole kind terms (length read.places) read.places behind
 read_all whole kind terms bytes count rest statements next behind begin cut few read all =
     let long : length read.places ≡ count = ArePlaced-length terms statements read.places read.placed ∙ all in
-    begin_statements whole kind terms bytes (length read.places) read.places rest behind begin (cut ∙ ap (λ n. to_be_bytes w32 n ++ rest) (sym long)) (omega arith) read.cut read.placings
+    begin_statements whole kind terms bytes (length read.places) read.places rest behind begin (cut ∙ ap (λ n. length_bytes n ++ rest) (sym long)) (omega arith) read.cut read.placings
 
 pub unused_there : (whole : List ℕ) (kind : Kind) (terms : List Term) (bytes : List ℕ) (at count : ℕ) (rest : List ℕ) (statements : List Statement) (next : ℕ) (behind : List ℕ)
-    → BeginWithTerms whole kind (length terms) terms bytes → at ≡ length (head_and_terms kind (length terms) terms) → bytes ≡ to_be_bytes w32 count ++ rest → count ≤ 100000
+    → BeginWithTerms whole kind (length terms) terms bytes → at ≡ length (head_and_terms kind (length terms) terms) → bytes ≡ length_bytes count ++ rest → count ≤ 100000
     → AreReadStatements terms rest statements next behind → length statements ≡ count → next < length terms → IsFirstBadField whole at
 unused_there whole kind terms bytes at count rest statements next behind begin offset cut few read all fewer =
     unused_term kind terms read.places behind (read_all whole kind terms bytes count rest statements next behind begin cut few read all) offset next fewer
@@ -239,24 +239,24 @@ all_used : (terms : List Term) (places : List Places) (next : ℕ) → IsNext (n
 all_used terms places next is enough place below = (is place).1 (omega arith)
 
 pub bytes_behind : (whole : List ℕ) (kind : Kind) (terms : List Term) (bytes : List ℕ) (at count : ℕ) (rest : List ℕ) (statements : List Statement) (next : ℕ) (behind : List ℕ) (end : ℕ)
-    → BeginWithTerms whole kind (length terms) terms bytes → at ≡ length (head_and_terms kind (length terms) terms) → bytes ≡ to_be_bytes w32 count ++ rest → count ≤ 100000
+    → BeginWithTerms whole kind (length terms) terms bytes → at ≡ length (head_and_terms kind (length terms) terms) → bytes ≡ length_bytes count ++ rest → count ≤ 100000
     → AreReadStatements terms rest statements next behind → length statements ≡ count → length terms ≤ next
     → end + length behind ≡ at + 4 + length rest → behind ≢ [] → IsFirstBadField whole end
 bytes_behind whole kind terms bytes at count rest statements next behind end begin offset cut few read all enough place some =
     let long : length rest ≡ length (flat_map statement_field read.places) + length behind = ap length read.cut ∙ length-append (flat_map statement_field read.places) behind in
-    let whole_length = length-append (head_and_terms kind (length terms) terms) (to_be_bytes w32 (length read.places) ++ flat_map statement_field read.places) in
+    let whole_length = length-append (head_and_terms kind (length terms) terms) (length_bytes (length read.places) ++ flat_map statement_field read.places) in
     byte_too_many kind terms read.places behind (read_all whole kind terms bytes count rest statements next behind begin cut few read all)
     (all_used terms read.places next read.next_is enough) (omega arith) some
 
 pub all_statements : (terms : List Term) (bytes : List ℕ) (count : ℕ) (rest : List ℕ) (statements : List Statement) (next : ℕ) (behind : List ℕ)
-    → bytes ≡ to_be_bytes w32 count ++ rest → count ≤ 100000 → AreReadStatements terms rest statements next behind → length statements ≡ count
+    → bytes ≡ length_bytes count ++ rest → count ≤ 100000 → AreReadStatements terms rest statements next behind → length statements ≡ count
     → length terms ≤ next → behind ≡ [] → AreAllStatements terms bytes statements
 all_statements terms bytes count rest statements next behind cut few read all enough none =
     let long : length read.places ≡ count = ArePlaced-length terms statements read.places read.placed ∙ all in
     record {
       places = read.places;
-      cut = cut ∙ ap (λ n. to_be_bytes w32 n ++ rest) (sym long)
-          ∙ ap (λ l. to_be_bytes w32 (length read.places) ++ l) (read.cut ∙ ap (λ l. flat_map statement_field read.places ++ l) none ∙ append-nil (flat_map statement_field read.places));
+      cut = cut ∙ ap (λ n. length_bytes n ++ rest) (sym long)
+          ∙ ap (λ l. length_bytes (length read.places) ++ l) (read.cut ∙ ap (λ l. flat_map statement_field read.places ++ l) none ∙ append-nil (flat_map statement_field read.places));
       few = omega arith;
       placed = read.placed;
       placings = read.placings;

@@ -1,10 +1,11 @@
 -- The body of a change, format 1: its bytes, and the rules that its fields keep.
-use Rattle.std.specs.Prelude.{◌≡◌, ◌<◌, ◌≤◌, ◌^◌, ℕ, List, [], ◌∷◌, ◌++◌, length, Some}
-use Rattle.std.specs.Int.{w32, to_be_bytes}
+use Rattle.std.specs.Prelude.{◌≡◌, ◌<◌, ◌≤◌, ◌+◌, ◌^◌, ℕ, List, [], ◌∷◌, ◌++◌, length, Some}
+use Rattle.base_core.specs.Numbers.{length_bytes}
 use Rattle.std.specs.List.{flat_map, slice_get, AllByRecursion}
+use Rattle.term_core.specs.declared.statement.Statement.{Statement}
 use Rattle.term_core.specs.declared.term.Term.{Term}
 use Rattle.term_core.specs.declared.term.Term.TheVariants.{Iri, Literal, Tagged, Blank}
-use Rattle.term_core.specs.Lists.{Has, AreDistinct}
+use Rattle.base_core.specs.Lists.{Has, AreDistinct}
 use Rattle.term_core.specs.Spelling.{spelling}
 use Rattle.term_core.specs.Term.{IsTerm, MayBeSubject, MayBePredicate, IsStatement}
 use Rattle.change_model.specs.declared.history.Change.{Change}
@@ -23,24 +24,33 @@ kind_byte Remove = 2
 
 -- the length of a term's spelling, and the spelling
 abbrev pub term_field : Term → List ℕ
-term_field term = to_be_bytes w32 (length (spelling term)) ++ spelling term
+term_field term = length_bytes (length (spelling term)) ++ spelling term
 
 -- a statement: the places of its three terms
 abbrev pub statement_field : Places → List ℕ
-statement_field places = to_be_bytes w32 places.subject ++ (to_be_bytes w32 places.predicate ++ to_be_bytes w32 places.object)
+statement_field places = length_bytes places.subject ++ (length_bytes places.predicate ++ length_bytes places.object)
 
 -- the fields up to the count of terms, and terms behind them
 abbrev pub head_and_terms : Kind → ℕ → List Term → List ℕ
-head_and_terms kind count terms = 1 ∷ kind_byte kind ∷ (to_be_bytes w32 count ++ flat_map term_field terms)
+head_and_terms kind count terms = 1 ∷ kind_byte kind ∷ (length_bytes count ++ flat_map term_field terms)
 
 -- the same with all terms, and then the count of statements and statements
 abbrev pub head_terms_and_statements : Kind → List Term → ℕ → List Places → List ℕ
 head_terms_and_statements kind terms count places =
-    head_and_terms kind (length terms) terms ++ (to_be_bytes w32 count ++ flat_map statement_field places)
+    head_and_terms kind (length terms) terms ++ (length_bytes count ++ flat_map statement_field places)
 
 -- the body of a change of this kind with these terms, and with statements whose terms stand at these places
 abbrev pub body : Kind → List Term → List Places → List ℕ
 body kind terms places = head_terms_and_statements kind terms (length places) places
+
+-- in how many bytes the terms of a statement are spelled
+abbrev pub spelled_in : Statement → ℕ
+spelled_in statement = length (spelling statement.subject) + length (spelling statement.predicate) + length (spelling statement.object)
+
+-- and those of all statements, a term once for each time that one of them names it
+abbrev pub spelled_total : List Statement → ℕ
+spelled_total [] = 0
+spelled_total (statement ∷ statements) = spelled_in statement + spelled_total statements
 
 -- the bytes are the body of the change: its terms by first appearance, and where those of each statement stand
 pub record IsBodyOf (change : Change) (bytes : List ℕ) : Type 0 where

@@ -1,8 +1,8 @@
 -- The first field of bytes that breaks its rule, and when each fault of bytes that should be a body comes.
 use Rattle.std.specs.Prelude.{◌≡◌, ◌≢◌, ◌<◌, ◌≤◌, ◌+◌, ◌^◌, ℕ, List, [], ◌∷◌, ◌++◌, length}
-use Rattle.std.specs.Int.{w32, to_be_bytes}
+use Rattle.base_core.specs.Numbers.{length_bytes}
 use Rattle.term_core.specs.declared.term.Term.{Term}
-use Rattle.term_core.specs.Lists.{Has}
+use Rattle.base_core.specs.Lists.{Has}
 use Rattle.term_core.specs.Spelling.{spelling}
 use Rattle.change_model.specs.declared.history.Change.{Change}
 use Rattle.change_model.specs.declared.history.Kind.{Kind}
@@ -50,12 +50,12 @@ pub data IsFirstBadField (bytes : List ℕ) (at : ℕ) : Type 0 where
       → at ≡ length (head_and_terms kind count terms) → length rest < 4 → IsFirstBadField bytes at
   -- a spelling ends early, is that of no term, of one that may not stand here, or of an earlier one
   wrong_spelling : (kind : Kind) (count : ℕ) (terms : List Term) (size : ℕ) (rest : List ℕ)
-      → BeginWithTerms bytes kind count terms (to_be_bytes w32 size ++ rest) → length terms < count → size < 2 ^ 32
+      → BeginWithTerms bytes kind count terms (length_bytes size ++ rest) → length terms < count → size < 2 ^ 32
       → at ≡ length (head_and_terms kind count terms) + 4 → ¬ BeginsWithTerm kind terms size rest → IsFirstBadField bytes at
   -- the count of statements ends early, or is above the limit
   wrong_count : (kind : Kind) (terms : List Term) (rest : List ℕ) → BeginWithTerms bytes kind (length terms) terms rest
       → at ≡ length (head_and_terms kind (length terms) terms)
-      → ((count : ℕ) (behind : List ℕ) → count ≤ 100000 → rest ≢ to_be_bytes w32 count ++ behind) → IsFirstBadField bytes at
+      → ((count : ℕ) (behind : List ℕ) → count ≤ 100000 → rest ≢ length_bytes count ++ behind) → IsFirstBadField bytes at
   -- a statement ends early, or one of its places names no term, one that may not stand there, or one out of its turn
   wrong_statement : (kind : Kind) (terms : List Term) (count : ℕ) (places : List Places) (rest : List ℕ)
       → BeginWithStatements bytes kind terms count places rest → length places < count
@@ -76,9 +76,9 @@ IsNoMemory NoMemory = Unit {0}
 IsNoMemory (BadBody at) = ⊥
 
 -- want of memory comes freely, and bytes are called bad where no change has them as its body, at the first bad field
-abbrev pub HasCause : List ℕ → BodyFault → Type 0
-HasCause bytes NoMemory = Unit {0}
-HasCause bytes (BadBody at) = IsFirstBadField bytes at × ((change : Change) → HasSpelling change → IsBodyOf change bytes → ⊥)
+abbrev pub IsBodyFault : List ℕ → BodyFault → Type 0
+IsBodyFault bytes NoMemory = Unit {0}
+IsBodyFault bytes (BadBody at) = IsFirstBadField bytes at × ((change : Change) → HasSpelling change → IsBodyOf change bytes → ⊥)
 
 -- want of memory, or a fault at this offset
 abbrev pub IsNoMemoryOrAt : ℕ → BodyFault → Type 0

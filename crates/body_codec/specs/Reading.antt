@@ -1,10 +1,10 @@
--- What the private functions that read a body find.
+-- Private: what the private functions that read a body find.
 use Rattle.std.specs.Prelude.{◌≡◌, ◌≢◌, ◌↔◌, ◌<◌, ◌≤◌, ◌+◌, ◌^◌, ℕ, List, [], ◌++◌, length, map}
-use Rattle.std.specs.Int.{w32, to_be_bytes}
+use Rattle.base_core.specs.Numbers.{length_bytes}
 use Rattle.std.specs.List.{flat_map}
 use Rattle.term_core.specs.declared.statement.Statement.{Statement}
 use Rattle.term_core.specs.declared.term.Term.{Term}
-use Rattle.term_core.specs.Lists.{Has}
+use Rattle.base_core.specs.Lists.{Has}
 use Rattle.term_core.specs.Spelling.{spelling}
 use Rattle.change_model.specs.declared.history.Kind.{Kind}
 use Rattle.change_model.specs.declared.vocabulary.Places.{Places}
@@ -17,9 +17,9 @@ use Rattle.body_codec.specs.Body.{statement_field, numbers, named, IsTermOf, IsP
 use Rattle.body_codec.specs.Faults.{IsFirstBadField, BeginsWithTerm}
 
 -- the bytes are bad, and here, or memory ran out
-abbrev pub IsBadAt : List ℕ → BodyFault → Type 0
-IsBadAt bytes NoMemory = Unit {0}
-IsBadAt bytes (BadBody at) = IsFirstBadField bytes at
+abbrev pub IsBadBodyAt : List ℕ → BodyFault → Type 0
+IsBadBodyAt bytes NoMemory = Unit {0}
+IsBadBodyAt bytes (BadBody at) = IsFirstBadField bytes at
 
 -- ---- terms
 
@@ -27,7 +27,7 @@ IsBadAt bytes (BadBody at) = IsFirstBadField bytes at
 -- length or of its spelling.
 pub data IsBadTerm (kind : Kind) (before : List Term) (bytes : List ℕ) (at place : ℕ) : Type 0 where
   no_length : place ≡ at → length bytes < 4 → IsBadTerm kind before bytes at place
-  no_spelling : (size : ℕ) (rest : List ℕ) → bytes ≡ to_be_bytes w32 size ++ rest → size < 2 ^ 32
+  no_spelling : (size : ℕ) (rest : List ℕ) → bytes ≡ length_bytes size ++ rest → size < 2 ^ 32
       → place ≡ at + 4 → ¬ BeginsWithTerm kind before size rest → IsBadTerm kind before bytes at place
 
 abbrev pub IsBadTermAt : Kind → List Term → List ℕ → ℕ → BodyFault → Type 0
@@ -54,6 +54,10 @@ pub record AreNamed (terms : List Term) (places : Places) (found : Named) : Type
   pub subject : StandsAt terms found.subject.now places.subject
   pub predicate : StandsAt terms found.predicate.now places.predicate
   pub object : StandsAt terms found.object.now places.object
+
+-- in how many bytes they are spelled
+abbrev pub named_in : Named → ℕ
+named_in found = length (spelling found.subject.now) + length (spelling found.predicate.now) + length (spelling found.object.now)
 
 pub record IsStatementOf (found : Named) (statement : Statement) : Type 0 where
   pub subject : statement.subject ≡ found.subject.now
@@ -100,7 +104,7 @@ IsBadStatementAt terms count bytes start (BadBody place) = IsBadStatement terms 
 -- the bytes are the count of the statements and their fields, which name all terms
 pub record AreAllStatements (terms : List Term) (bytes : List ℕ) (statements : List Statement) : Type 0 where
   pub places : List Places
-  pub cut : bytes ≡ to_be_bytes w32 (length places) ++ flat_map statement_field places
+  pub cut : bytes ≡ length_bytes (length places) ++ flat_map statement_field places
   pub few : length places ≤ 100000
   pub placed : ArePlaced terms statements places
   pub placings : ArePlacings terms [] places

@@ -1,9 +1,11 @@
--- What the functions that write a body need.
-use Rattle.std.specs.Prelude.{◌<◌, ◌^◌, length}
-use Rattle.term_core.specs.declared.term.Term.{Term}
-use Rattle.term_core.specs.Spelling.{spelling, HasShortForm}
+-- Private: what the functions that write a body need.
+use Rattle.std.specs.Prelude.{◌<◌, ◌^◌, ◌++◌, ℕ, List, length}
+use Rattle.base_core.specs.Numbers.{length_bytes}
 
--- the length of the term's spelling fits four bytes, and so does that of its form
-pub record IsShort (term : Term) : Type 0 where
-  pub form : HasShortForm term
-  pub whole : length (spelling term) < 2 ^ 32
+-- the length of a spelling, and the spelling
+abbrev pub counted : List ℕ → List ℕ
+counted spelling = length_bytes (length spelling) ++ spelling
+
+-- the length of a spelling fits four bytes
+abbrev pub IsShort : List ℕ → Type 0
+IsShort spelling = length spelling < 2 ^ 32

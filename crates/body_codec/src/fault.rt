@@ -2,10 +2,10 @@
 ghost use Rattle.std.specs.Prelude.{◌≡◌};
 ghost use Rattle.body_codec.specs.declared.fault.BodyFault.TheVariants.{NoMemory};
 
+use base_core::Want;
 use std::alloc::{AllocError, AllocFailed};
 use std::error::Error;
 use std::fmt;
-use term_core::Want;
 
 /// Why bytes could not be read as the body of a change.
 #[derive(Clone, Copy, Debug, PartialEq, Eq)]

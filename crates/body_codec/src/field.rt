@@ -1,17 +1,21 @@
 //! The fields that all bodies share.
-ghost use Rattle.std.specs.Prelude.{◌≡◌, ◌≢◌, ◌<◌, ◌^◌, ◌++◌, length, MatchOption, OnOk};
-ghost use Rattle.std.specs.Int.{w32, to_be_bytes};
+ghost use Rattle.std.specs.Prelude.{◌≡◌, ◌≢◌, ◌<◌, ◌^◌, ◌++◌, length, IfSome, MatchOption};
+ghost use Rattle.base_core.specs.Numbers.{length_bytes};
 ghost use Rattle.change_model.specs.declared.history.Kind.{Kind as AnyKind};
 ghost use Rattle.body_codec.specs.Body.{kind_byte};
 
+use base_core::first_u32;
 use change_model::Kind;
-use term_core::Want;
 
 /// The byte of format 1.
 pub(crate) const FORMAT: u8 = 1;
 
 /// A body has at most so many statements.
 pub(crate) const MOST_STATEMENTS: u32 = 100_000;
+
+/// The terms of all statements of a body that is read are spelled in at most so many bytes together, a term once for each
+/// time that a statement names it. No document gives a change with more.
+pub(crate) const MOST_SPELLED: u64 = 38_254_432;
 
 const ADD: u8 = 1;
 
@@ -46,20 +50,11 @@ pub(crate) struct Number<'a> {
 
 /// The number that the bytes begin with. There is none where they are fewer than four.
 pub(crate) fn number_in(bytes: &[u8]) -> Option<Number<'_>>
-    ensures cases { MatchOption result (length bytes.now < 4) (λ found. bytes.now ≡ to_be_bytes w32 found.value ++ found.rest.now) }
-    ensures fits { MatchOption result (length bytes.now < 4) (λ found. found.value < 2 ^ 32) }
+    ensures cases { MatchOption result (length bytes.now < 4) (λ found. bytes.now ≡ length_bytes found.value ++ found.rest.now) }
+    ensures fits { IfSome result (λ found. found.value < 2 ^ 32) }
 {
-    let Some((front, rest)) = bytes.split_first_chunk::<4>() else {
+    let Some((value, rest)) = first_u32(bytes) else {
         return None;
     };
-    let value = u32::from_be_bytes(*front);
     Some(Number { value, rest })
-}
-
-/// Appends the four bytes of a number.
-pub(crate) fn put_number(bytes: &mut Vec<u8>, number: u32) -> Result<(), Want>
-    ensures { OnOk result (bytes.new.items ≡ bytes.old.items ++ to_be_bytes w32 number) }
-{
-    bytes.extend_from_slice(&number.to_be_bytes())?;
-    Ok(())
 }

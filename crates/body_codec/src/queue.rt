@@ -1,6 +1,6 @@
 //! Bodies on their way to a disk. Those who wait for a body share its bytes.
+use base_core::List;
 use std::sync::Arc;
-use term_core::List;
 
 /// A queued body. The serial counts the bodies that were queued at the service.
 #[derive(Debug, Drop)]

@@ -1,17 +1,19 @@
 //! Reading the statements of a body. Each names its terms by their places, and a place is named only where each lower
 //! one is named before. So one number tells which places may be named.
-ghost use Rattle.std.specs.Prelude.{◌≡◌, ◌≢◌, ◌<◌, ◌+◌, ◌^◌, ◌++◌, [], ◌∷◌, ℕ, List as Items, length, MatchOption, IfOk, IfErr, IfSome, IfNone};
+ghost use Rattle.std.specs.Prelude.{◌≡◌, ◌≢◌, ◌<◌, ◌≤◌, ◌+◌, ◌^◌, ◌++◌, [], ◌∷◌, ℕ, List as Items, length, MatchOption, IfOk, IfErr, IfSome, IfNone};
 ghost use Rattle.term_core.specs.Term.{MayBeSubject, MayBePredicate};
 ghost use Rattle.change_model.specs.declared.vocabulary.Places.{Places as AnyPlaces};
 ghost use Rattle.change_model.specs.Vocabulary.{StandsAt};
-ghost use Rattle.body_codec.specs.Body.{statement_field, numbers, NamesA, IsInTurn, AreInTurn, NameTerms, IsPlacing};
-ghost use Rattle.body_codec.specs.Reading.{AreReadStatements, IsBadStatementAt, AreNamed, AreSmall, IsStatementIn, IsStatementOf, IsNext};
+ghost use Rattle.body_codec.specs.Body.{statement_field, numbers, NamesA, IsInTurn, AreInTurn, NameTerms, IsPlacing, spelled_total};
+ghost use Rattle.body_codec.specs.Reading.{AreReadStatements, IsBadStatementAt, AreNamed, AreSmall, named_in, IsStatementIn, IsStatementOf, IsNext};
 
 use crate::fault::BodyFault;
-use crate::field::number_in;
+use crate::field::{MOST_SPELLED, number_in};
+use crate::spelled::spelled_size;
+use base_core::Want;
 use change_model::Places;
 use std::alloc::Global;
-use term_core::{Statement, Term, Want};
+use term_core::{Statement, Term};
 
 /// The statements of a body, and the bytes behind them.
 #[derive(Drop)]
@@ -36,6 +38,7 @@ pub(crate) fn read_statements<'a>(
     requires fits { start + length bytes.now < 2 ^ 32 }
     ensures found { IfOk result (λ read. AreReadStatements terms.now bytes.now read.statements.items read.next read.rest.now) }
     ensures all { IfOk result (λ read. length read.statements.items ≡ count) }
+    ensures small { IfOk result (λ read. spelled_total read.statements.items ≤ 38254432) }
     ensures at { IfOk result (λ read. read.at + length read.rest.now ≡ start + length bytes.now) }
     ensures fault { IfErr result (IsBadStatementAt terms.now count bytes.now start) }
 {
@@ -43,11 +46,16 @@ pub(crate) fn read_statements<'a>(
     let mut next = 0;
     let mut rest = bytes;
     let mut at = start;
+    let mut spelled = 0;
     'statements: for _place in 0..count {
         let Some(read) = read_statement(terms, next, rest) else {
             return Err(BodyFault::BadBody { at });
         };
+        let Some(more) = with_statement(spelled, read.terms) else {
+            return Err(BodyFault::NoMemory);
+        };
         statements.push(statement_of(alloc, read.terms)?)?;
+        spelled = more;
         next = read.next;
         rest = read.rest;
         at += 12;
@@ -66,6 +74,20 @@ struct Named<'a> {
     subject: &'a Term,
     predicate: &'a Term,
     object: &'a Term,
+}
+
+/// In how many bytes the terms of all statements are spelled with those of this one, unless that is too much.
+fn with_statement(spelled: u64, terms: Named<'_>) -> Option<u64>
+    ensures { IfSome result (λ more. (more ≡ spelled + named_in terms.entry) × (more ≤ 38254432)) }
+{
+    let more = spelled
+        .saturating_add(spelled_size(terms.subject))
+        .saturating_add(spelled_size(terms.predicate))
+        .saturating_add(spelled_size(terms.object));
+    if more > MOST_SPELLED {
+        return None;
+    }
+    Some(more)
 }
 
 /// The statement of these terms.

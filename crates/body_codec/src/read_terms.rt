@@ -2,11 +2,11 @@
 ghost use Rattle.std.specs.Prelude.{◌≡◌, ◌↔◌, ◌⊎◌, ◌<◌, ◌+◌, ◌^◌, ◌++◌, [], ℕ, List as Items, length, IfOk, IfErr, IsTrue};
 ghost use Rattle.std.specs.List.{AllByRecursion};
 ghost use Rattle.term_core.specs.declared.term.Term.{Term as AnyTerm};
-ghost use Rattle.term_core.specs.Lists.{Has};
+ghost use Rattle.base_core.specs.Lists.{Has};
 ghost use Rattle.term_core.specs.Spelling.{spelling};
 ghost use Rattle.body_codec.specs.Body.{term_field, head_and_terms, MayStandIn, IsTermOf};
 ghost use Rattle.body_codec.specs.Faults.{BeginWithTerms};
-ghost use Rattle.body_codec.specs.Reading.{IsBadAt, IsBadTermAt, IsNoTermAt, AreSpellings};
+ghost use Rattle.body_codec.specs.Reading.{IsBadBodyAt, IsBadTermAt, IsNoTermAt, AreSpellings};
 
 use crate::fault::BodyFault;
 use crate::field::number_in;
@@ -40,7 +40,7 @@ pub(crate) fn read_terms(
         BeginWithTerms (head_and_terms kind count [] ++ bytes.now) kind count found.terms.items found.rest.now) }
     ensures all { IfOk result (λ found. length found.terms.items ≡ count) }
     ensures at { IfOk result (λ found. found.at + length found.rest.now ≡ length bytes.now + 6) }
-    ensures fault { IfErr result (IsBadAt (head_and_terms kind count [] ++ bytes.now)) }
+    ensures fault { IfErr result (IsBadBodyAt (head_and_terms kind count [] ++ bytes.now)) }
 {
     let mut terms = Vec::new(alloc);
     let mut seen = BTreeSet::new(alloc);

@@ -1,11 +1,14 @@
-//! A spelling where it stands in a body, as a key of a set.
-ghost use Rattle.std.specs.Prelude.{◌≡◌, nat_eq, refl};
+//! A spelling where it stands in a body, as a key of a set, and how long a spelling is.
+ghost use Rattle.std.specs.Prelude.{◌≡◌, ◌<◌, ◌+◌, ◌-◌, ◌^◌, length, nat_eq, refl};
 ghost use Rattle.std.specs.Ordering.{nat_cmp, as_partial_cmp};
 ghost use Rattle.std.specs.Cmp.{partial_equiv_from_equiv};
 ghost use Rattle.std.specs.Cmp.Lexicographic.{pointwise, slice_cmp, nat_list_eq_equiv, nat_list_cmp_total, texts_po, texts_ties};
+ghost use Rattle.term_core.specs.Spelling.{spelling};
 
+use base_core::Text;
 use std::cmp::Ordering;
 use std::marker::Model;
+use term_core::Term;
 
 /// The spelling of a term, which a body lends. Spellings are ordered by their bytes.
 #[derive(Debug, Drop)]
@@ -71,4 +74,22 @@ impl Ord for Spelled<'_> {
     fn cmp(&self, other: &Spelled<'_>) -> Ordering {
         self.bytes().cmp(other.bytes())
     }
+}
+
+/// How many bytes the spelling of a term has, where that fits.
+pub(crate) fn spelled_size(term: &Term) -> u64
+    ensures { result < 2 ^ 64 - 1 → result ≡ length (spelling term.now) }
+{
+    match term {
+        Term::Iri(iri) => with_text(1, iri),
+        Term::Literal { form, datatype } => with_text(with_text(5, form), datatype),
+        Term::Tagged { form, tag } => with_text(with_text(5, form), tag),
+        Term::Blank { label, .. } => with_text(9, label),
+    }
+}
+
+fn with_text(size: u64, text: &Text) -> u64
+    ensures { result < 2 ^ 64 - 1 → result ≡ size + length text.now }
+{
+    size.saturating_add(text.text().len() as u64)
 }

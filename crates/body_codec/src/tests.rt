@@ -1,11 +1,12 @@
 ghost use Rattle.std.specs.Prelude.{◌≡◌, ◌<◌, ◌^◌, length, IfOk};
 
 use super::*;
+use base_core::{List, Text, Want, put_u32};
 use change_model::{Change, Kind};
 use std::alloc::Global;
 use std::sync::Arc;
 use std::test::Fail;
-use term_core::{List, Statement, Term, Text, Want};
+use term_core::{Statement, Term};
 
 /// The body of the Add of `<http://e/a> <http://e/p> <http://e/b> .`
 const WORKED: &[u8] =
@@ -210,4 +211,32 @@ fn those_who_wait_for_a_body_share_its_bytes(rt: HostRuntime) -> Result<(), Fail
     };
     assert_eq!(rt; receipt.spelling.items(), ticket.body.items());
     Ok(())
+}
+
+/// The body of a Remove of so many statements over one IRI, which is spelled in 20,000 bytes.
+fn repeated(alloc: Global, count: u32) -> Result<Vec<u8>, Want> {
+    let mut bytes = b"\x01\x02\0\0\0\x01\0\0\x4e\x20\x01e:"
+        .as_slice()
+        .to_vec(alloc)?;
+    bytes.resize(20_010, b'p')?;
+    put_u32(count, &mut bytes)?;
+    let end = bytes.len().saturating_add(12 * count as usize);
+    bytes.resize(end, 0)?;
+    Ok(bytes)
+}
+
+/// How many statements are read of so many.
+fn read_of(alloc: Global, count: u32) -> Result<usize, BodyFault> {
+    let bytes = repeated(alloc, count)?;
+    if bytes.len() > 10_000_000 {
+        return Err(BodyFault::BadBody { at: 0 });
+    }
+    Ok(read_body(alloc, &bytes)?.statements.items().len())
+}
+
+#[test]
+fn a_body_that_asks_for_gigabytes_wants_memory(rt: HostRuntime) {
+    assert_eq!(rt; read_of(rt.alloc(), 637), Ok(637));
+    assert_eq!(rt; read_of(rt.alloc(), 638), Err(BodyFault::NoMemory));
+    assert_eq!(rt; read_of(rt.alloc(), 100_000), Err(BodyFault::NoMemory));
 }

@@ -1,15 +1,14 @@
 //! The body of a change.
-ghost use Rattle.std.specs.Prelude.{◌≡◌, ◌<◌, ◌^◌, ◌++◌, length, IfOk, OnOk};
-ghost use Rattle.std.specs.Int.{w32, to_be_bytes};
+ghost use Rattle.std.specs.Prelude.{◌≡◌, ◌<◌, ◌^◌, ◌++◌, length, map, IfOk, OnOk};
 ghost use Rattle.std.specs.List.{flat_map, AllByRecursion};
-ghost use Rattle.term_core.specs.Spelling.{spelling, HasShortForm};
+ghost use Rattle.term_core.specs.Spelling.{spelling};
 ghost use Rattle.body_codec.specs.Body.{term_field, statement_field, HasSpelling, IsBodyOf};
-ghost use Rattle.body_codec.specs.Writing.{IsShort};
+ghost use Rattle.body_codec.specs.Writing.{counted, IsShort};
 
-use crate::field::{FORMAT, kind_byte, put_number};
-use change_model::{Change, Places, vocabulary_of};
+use crate::field::{FORMAT, kind_byte};
+use base_core::{Want, put_u32};
+use change_model::{Change, Places, Vocabulary, vocabulary_of};
 use std::alloc::Global;
-use term_core::{Term, Want};
 
 /// The body of this change.
 pub fn write_body(alloc: Global, change: &Change) -> Result<Vec<u8>, Want>
@@ -22,31 +21,31 @@ pub fn write_body(alloc: Global, change: &Change) -> Result<Vec<u8>, Want>
     let mut bytes = Vec::new(alloc);
     bytes.push(FORMAT)?;
     bytes.push(kind_byte(change.kind))?;
-    put_number(&mut bytes, terms.len() as u32)?;
-    put_terms(alloc, &mut bytes, terms)?;
-    put_number(&mut bytes, places.len() as u32)?;
+    put_u32(terms.len() as u32, &mut bytes)?;
+    put_terms(&mut bytes, &vocabulary)?;
+    put_u32(places.len() as u32, &mut bytes)?;
     put_statements(&mut bytes, places)?;
     Ok(bytes)
 }
 
 /// Appends the terms, each behind the length of its spelling.
-fn put_terms(alloc: Global, bytes: &mut Vec<u8>, terms: &[Term]) -> Result<(), Want>
-    requires { AllByRecursion IsShort terms.now }
-    ensures { OnOk result (bytes.new.items ≡ bytes.old.items ++ flat_map term_field terms.now) }
+fn put_terms(bytes: &mut Vec<u8>, vocabulary: &Vocabulary) -> Result<(), Want>
+    requires spelled { vocabulary.now.spellings ≡ map spelling vocabulary.now.terms }
+    requires short { AllByRecursion IsShort vocabulary.now.spellings }
+    ensures { OnOk result (bytes.new.items ≡ bytes.old.items ++ flat_map term_field vocabulary.now.terms) }
 {
-    'terms: for term in terms {
-        put_term(alloc, bytes, term)?;
+    'terms: for spelling in vocabulary.spellings.items() {
+        put_spelling(bytes, spelling.bytes())?;
     }
     Ok(())
 }
 
-fn put_term(alloc: Global, bytes: &mut Vec<u8>, term: &Term) -> Result<(), Want>
-    requires { IsShort term.now }
-    ensures { OnOk result (bytes.new.items ≡ bytes.old.items ++ term_field term.now) }
+fn put_spelling(bytes: &mut Vec<u8>, spelling: &[u8]) -> Result<(), Want>
+    requires { IsShort spelling.now }
+    ensures { OnOk result (bytes.new.items ≡ bytes.old.items ++ counted spelling.now) }
 {
-    let spelling = term.encode(alloc)?;
-    put_number(bytes, spelling.len() as u32)?;
-    bytes.extend_from_slice(&spelling)?;
+    put_u32(spelling.len() as u32, bytes)?;
+    bytes.extend_from_slice(spelling)?;
     Ok(())
 }
 
@@ -63,8 +62,8 @@ fn put_statements(bytes: &mut Vec<u8>, statements: &[Places]) -> Result<(), Want
 fn put_statement(bytes: &mut Vec<u8>, places: &Places) -> Result<(), Want>
     ensures { OnOk result (bytes.new.items ≡ bytes.old.items ++ statement_field places.now) }
 {
-    put_number(bytes, places.subject)?;
-    put_number(bytes, places.predicate)?;
-    put_number(bytes, places.object)?;
+    put_u32(places.subject, bytes)?;
+    put_u32(places.predicate, bytes)?;
+    put_u32(places.object, bytes)?;
     Ok(())
 }

@@ -3,7 +3,7 @@ use Rattle.std.proofs.lemmas.Result.{err_from_is_err_and}
 use Rattle.term_core.specs.declared.statement.Statement.{Statement}
 use Rattle.change_model.specs.declared.history.Change.{Change}
 use Rattle.body_codec.specs.Body.{head_and_terms, HasSpelling, IsBodyOf}
-use Rattle.body_codec.specs.Reading.{IsBadAt}
+use Rattle.body_codec.specs.Reading.{IsBadBodyAt}
 use Rattle.body_codec.proofs.Changes.{change_of}
 use Rattle.body_codec.proofs.Refusals.{bad_has_cause, bad_is_no_want, bad_is_no_body, bad_is_here, one_change}
 use Rattle.body_codec.proofs.Steps.{begin_all, offset_all}
@@ -22,13 +22,13 @@ returns-in_err-head-clause-fault c =
 pub returns-in_err-terms-clause-only : goal.returns-in_err-terms-clause-only
 returns-in_err-terms-clause-only c = λ change has is.
     let p = err_from_is_err_and c.from_residual-in_err-terms.result c.from_residual-in_err-terms.ensures.1 in
-    let bad = subst (λ (l : List ℕ). IsBadAt l c.in_err-terms.field-0.0) (sym c.in_ok-head.ensures.found) c.in_err-terms.ensures.fault in
+    let bad = subst (λ (l : List ℕ). IsBadBodyAt l c.in_err-terms.field-0.0) (sym c.in_ok-head.ensures.found) c.in_err-terms.ensures.fault in
     rw (p.1, p.2) (bad_is_no_want c.args.bytes.now c.in_err-terms.field-0.0 bad change has is)
 
 pub returns-in_err-terms-clause-fault : goal.returns-in_err-terms-clause-fault
 returns-in_err-terms-clause-fault c =
     let p = err_from_is_err_and c.from_residual-in_err-terms.result c.from_residual-in_err-terms.ensures.1 in
-    let bad = subst (λ (l : List ℕ). IsBadAt l c.in_err-terms.field-0.0) (sym c.in_ok-head.ensures.found) c.in_err-terms.ensures.fault in
+    let bad = subst (λ (l : List ℕ). IsBadBodyAt l c.in_err-terms.field-0.0) (sym c.in_ok-head.ensures.found) c.in_err-terms.ensures.fault in
     rw (p.1, p.2) (bad_has_cause c.args.bytes.now c.in_err-terms.field-0.0 bad)
 
 pub returns-in_err-statements-clause-only : goal.returns-in_err-statements-clause-only
@@ -82,7 +82,7 @@ returns-in_err-head-clause-bad c = λ at is.
 pub returns-in_err-terms-clause-bad : goal.returns-in_err-terms-clause-bad
 returns-in_err-terms-clause-bad c = λ at is.
     let p = err_from_is_err_and c.from_residual-in_err-terms.result c.from_residual-in_err-terms.ensures.1 in
-    let bad = subst (λ (l : List ℕ). IsBadAt l c.in_err-terms.field-0.0) (sym c.in_ok-head.ensures.found) c.in_err-terms.ensures.fault in
+    let bad = subst (λ (l : List ℕ). IsBadBodyAt l c.in_err-terms.field-0.0) (sym c.in_ok-head.ensures.found) c.in_err-terms.ensures.fault in
     rw (p.1, p.2) (bad_is_here c.args.bytes.now c.in_err-terms.field-0.0 bad at is)
 
 pub returns-in_err-statements-clause-bad : goal.returns-in_err-statements-clause-bad

@@ -1,6 +1,6 @@
 use Rattle.std.proofs.Common.{◌≡◌, ◌↔◌, ◌⊎◌, ◌∙◌, ℕ, List, sym, subst}
 use Rattle.std.proofs.lemmas.Result.{err_from_is_err_and}
-use Rattle.term_core.specs.Lists.{Has}
+use Rattle.base_core.specs.Lists.{Has}
 use Rattle.body_codec.proofs.Steps.{spelling_short, no_term_here, term_twice}
 use Rattle.body_codec.proofs.Seen.{was_seen, was_new, seen_more}
 use Rattle.body_codec.proofs.read_terms.read_new_term.Goals as goal

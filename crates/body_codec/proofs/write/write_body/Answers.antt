@@ -1,5 +1,5 @@
 use Rattle.std.proofs.Common.{length, ◌∙◌, ap, arith}
-use Rattle.body_codec.proofs.Changes.{few_terms, short_terms, ArePlaced-length}
+use Rattle.body_codec.proofs.Changes.{few_terms, short_spellings, ArePlaced-length}
 use Rattle.body_codec.proofs.write.write_body.Goals as goal
 
 pub overflow_cast-terms : goal.overflow_cast-terms
@@ -8,9 +8,9 @@ overflow_cast-terms c =
     let long = ap length (c.items-terms.ensures ∙ c.in_ok-vocabulary.ensures.terms) in
     omega arith
 
-pub put_terms-requires : goal.put_terms-requires
-put_terms-requires c =
-    short_terms c.args.change.now c.items-terms.result.now (c.items-terms.ensures ∙ c.in_ok-vocabulary.ensures.terms) c.requires
+pub put_terms-requires-clause-short : goal.put_terms-requires-clause-short
+put_terms-requires-clause-short c =
+    short_spellings c.args.change.now c.in_ok-vocabulary.vocabulary c.in_ok-vocabulary.ensures c.requires
 
 pub overflow_cast-places : goal.overflow_cast-places
 overflow_cast-places c =
