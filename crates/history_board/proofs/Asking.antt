@@ -2,7 +2,7 @@
 use Rattle.std.proofs.Common.{◌≡◌, ℕ, ◌+◌, ◌%◌, ◌^◌, ◌<◌, ◌≤◌, true, List, [], ◌∷◌, ◌++◌, set, refl, sym, subst, ◌∙◌, arith, ◌⊎◌, None}
 use Rattle.std.specs.Prelude.{slice_index, Contains, length}
 use Rattle.std.proofs.lemmas.List.{set-get_or}
-use Rattle.atomic_table.specs.Seated.{TableId}
+use Rattle.history_board.specs.Boards.{BoardId}
 use Rattle.atomic_table.specs.Table.{Me, keeps, State, Allows, Splits, Joins}
 use Rattle.atomic_table.proofs.Lists.{set_else}
 use Rattle.history_board.specs.declared.view.View.{View}
@@ -29,7 +29,7 @@ module _ {E : Type 0} (session_of command_of : E → ℕ) where
   pub look_asked : (slots id : ℕ) (me : Me ℕ (View E)) → me.1 ≡ [] → me.0.live ≡ true → Allows {S = ℕ} {V = View E} Ruled slots id me 0 (λ n. n) (Looks session_of command_of me)
   look_asked slots id me none lives = subst (λ (l : List (ℕ × ℕ)). Allows {S = ℕ} {V = View E} Ruled slots id (me.0, l) 0 (λ n. n) (Looks session_of command_of (me.0, l))) (sym none) (look_allowed slots id me.0 lives)
 
-  commit_allowed : (slots : ℕ) (z : TableId) (id : ℕ) (v : View E) (entries : List E) (e : E) → entries ≡ e ∷ [] → IsKeeping v → length v.seen + 1 < 2 ^ 64 → MayCommit session_of command_of (kept_of z v) e
+  commit_allowed : (slots : ℕ) (z : BoardId) (id : ℕ) (v : View E) (entries : List E) (e : E) → entries ≡ e ∷ [] → IsKeeping v → length v.seen + 1 < 2 ^ 64 → MayCommit session_of command_of (kept_of z v) e
       → Allows {S = ℕ} {V = View E} Ruled slots id (v, []) 0 (λ n. (n + 1) % 2 ^ 64) (Commits session_of command_of entries (v, []))
   commit_allowed slots z id v entries e is keeping room may s rule homes at small =
       let kept = as_keeper session_of command_of s.words s.views id v rule (at, keeping.live) keeping.keeper in
@@ -39,7 +39,7 @@ module _ {E : Type 0} (session_of command_of : E → ℕ) where
       let sound : Sound session_of command_of w = sound_of session_of command_of _ _ id w after in
       (w, keeps, tt, record { seat = id; keeper = w; kept = after }, λ (d : E) (h : entries ≡ d ∷ []). let same : e ≡ d = cc in subst (λ (x : E). (slice_index s.words 0 ≡ length v.seen) × ◌≡◌ {A = Me ℕ (View E)} (w, []) (committed session_of command_of x v, []) × Sound session_of command_of (committed session_of command_of x v)) same (found, refl, sound))
 
-  pub commit_asked : (slots : ℕ) (z : TableId) (id : ℕ) (me : Me ℕ (View E)) (entries : List E) (e : E) → entries ≡ e ∷ [] → me.1 ≡ [] → IsKeeping me.0 → length me.0.seen + 1 < 2 ^ 64 → MayCommit session_of command_of (kept_of z me.0) e
+  pub commit_asked : (slots : ℕ) (z : BoardId) (id : ℕ) (me : Me ℕ (View E)) (entries : List E) (e : E) → entries ≡ e ∷ [] → me.1 ≡ [] → IsKeeping me.0 → length me.0.seen + 1 < 2 ^ 64 → MayCommit session_of command_of (kept_of z me.0) e
       → Allows {S = ℕ} {V = View E} Ruled slots id me 0 (λ n. (n + 1) % 2 ^ 64) (Commits session_of command_of entries me)
   commit_asked slots z id me entries e is none keeping room may = subst (λ (l : List (ℕ × ℕ)). Allows {S = ℕ} {V = View E} Ruled slots id (me.0, l) 0 (λ n. (n + 1) % 2 ^ 64) (Commits session_of command_of entries (me.0, l))) (sym none)
       (commit_allowed slots z id me.0 entries e is keeping room may)

@@ -4,7 +4,7 @@ use Rattle.std.specs.Prelude.{Contains, slice_get}
 use Rattle.std.proofs.lemmas.List.Elements.{Contains-append_left, Contains-append_right, Contains-append_cases}
 use mathlib.Core.Logic.{dite}
 use native.Mathlib.Decide.{ℕ_discrete}
-use Rattle.atomic_table.specs.Seated.{TableId}
+use Rattle.history_board.specs.Boards.{BoardId}
 use Rattle.history_board.specs.declared.view.View.{View}
 use Rattle.history_board.specs.declared.view.Bearing.{Bearing}
 use Rattle.history_board.specs.declared.view.Enrolment.{Enrolment}
@@ -68,7 +68,7 @@ module _ {E : Type 0} (session_of command_of : E → ℕ) where
   pub bears_doubted : (k : Kept E) (e : E) → Contains k.doubt e → bears_after session_of command_of k.doubt (length k.seen) e k.bears ≡ k.bears
   bears_doubted k e has = ap (λ c. if c then k.bears else map (makes session_of (length k.seen) e) k.bears) (is_in_doubt session_of command_of k.doubt e has)
 
-  module _ (At : ℕ → View E → Type 0) (z : TableId) (id : ℕ) (v : View E) (e : E) (all : HoldsSessions session_of command_of At v) (at : At id v) (may : MayCommit session_of command_of (kept_of z v) e) where
+  module _ (At : ℕ → View E → Type 0) (z : BoardId) (id : ℕ) (v : View E) (e : E) (all : HoldsSessions session_of command_of At v) (at : At id v) (may : MayCommit session_of command_of (kept_of z v) e) where
     -- an entry that may come is of no session that was enrolled, or of one that was
     pub may_count : (session_of e ≡ 0) ⊎ IsEnrolled v.since (session_of e)
     may_count = ⊎_elim

@@ -19,7 +19,7 @@ use Rattle.history_board.proofs.Places.{get_set, get_set_else}
 use Rattle.history_board.proofs.Pinning.{pins_turned, pins_stay, pins_added, pins_dropped, put_cases, put_here, put_stays, free_number}
 use Rattle.history_board.proofs.Following.{grows_not, follow_turned, follow_added, follow_dropped}
 use Rattle.history_board.proofs.Members.{by_cases, none_in}
-use Rattle.atomic_table.specs.Seated.{TableId}
+use Rattle.history_board.specs.Boards.{BoardId}
 use Rattle.history_board.specs.Tokens.{kept_of, MayCommit}
 use Rattle.history_board.proofs.SessionSteps.{sessions_stay, sessions_added, sessions_dropped, sessions_joined}
 use Rattle.history_board.proofs.Committing.{sessions_committed}
@@ -198,7 +198,7 @@ module _ {E : Type 0} (session_of command_of : E → ℕ) where
       ))
 
   -- a commit
-  pub commit_kept : (words : List ℕ) (views : List (View E)) (z : TableId) (id : ℕ) (v : View E) (e : E) → IsLive views id v → v.is_keeper ≡ true → v.is_pin ≡ false → v.olds ≡ [] → length v.seen + 1 < 2 ^ 64 → MayCommit session_of command_of (kept_of z v) e → Kept words (IsLive views) id v
+  pub commit_kept : (words : List ℕ) (views : List (View E)) (z : BoardId) (id : ℕ) (v : View E) (e : E) → IsLive views id v → v.is_keeper ≡ true → v.is_pin ≡ false → v.olds ≡ [] → length v.seen + 1 < 2 ^ 64 → MayCommit session_of command_of (kept_of z v) e → Kept words (IsLive views) id v
       → Kept (set words 0 ((slice_index words 0 + 1) % 2 ^ 64)) (IsLive (set views id (committed session_of command_of e v))) id (committed session_of command_of e v)
   commit_kept words views z id v e at key no_pin olds room may kept =
       let w : View E = committed session_of command_of e v in

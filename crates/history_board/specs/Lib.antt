@@ -1,3 +1,4 @@
+pub mod Boards
 pub mod Bearings
 pub mod Pins
 pub mod Views

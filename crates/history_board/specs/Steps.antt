@@ -2,7 +2,7 @@
 use Rattle.std.specs.Prelude.{◌≡◌, ℕ, true, List, [], ◌∷◌, ◌++◌, length, Contains, ◌≤◌}
 use mathlib.Core.List.{IsPrefix}
 use Rattle.atomic_table.specs.Table.{Me}
-use Rattle.atomic_table.specs.Seated.{TableId}
+use Rattle.history_board.specs.Boards.{BoardId}
 use Rattle.history_board.specs.declared.view.View.{View}
 use Rattle.history_board.specs.Tokens.{kept_of, IsSound}
 use Rattle.history_board.specs.Bearings.{bears_after}
@@ -10,7 +10,7 @@ use Rattle.history_board.specs.Bearings.{bears_after}
 module _ {E : Type 0} (session_of command_of : E → ℕ) where
   -- what the rule says of the keeper alone
   abbrev pub Sound : View E → Type 0
-  Sound v = (z : TableId) → IsSound session_of command_of (kept_of z v)
+  Sound v = (z : BoardId) → IsSound session_of command_of (kept_of z v)
 
   -- what a view is found to be at a look: it and all that it put together are beginnings of one history, of this length
   pub record IsFound (length_found : ℕ) (v : View E) : Type 0 where

@@ -1,6 +1,6 @@
 -- What contracts see of the keeper, of a note and of a pin.
 use Rattle.std.specs.Prelude.{◌≡◌, ℕ, ◌≤◌, Option, List, [], length, ◌<◌, ◌⊎◌, None, Some, Contains, slice_get}
-use Rattle.atomic_table.specs.Seated.{TableId}
+use Rattle.history_board.specs.Boards.{BoardId}
 use Rattle.history_board.specs.declared.view.View.{View}
 use Rattle.history_board.specs.declared.view.Bearing.{Bearing}
 use Rattle.history_board.specs.declared.view.Enrolment.{Enrolment}
@@ -9,7 +9,7 @@ use Rattle.history_board.specs.Bearings.{since_of, Bears, borne, IsAbove, IsBorn
 
 -- a note: its board, the beginning of the history that it has seen, the floor and the count of faults that it has seen, and the sessions that it bears
 pub record Seen (E : Type 0) : Type 0 where
-  pub board : TableId
+  pub board : BoardId
   pub seen : List E
   pub floor : ℕ
   pub count : ℕ
@@ -17,7 +17,7 @@ pub record Seen (E : Type 0) : Type 0 where
 
 -- the keeper: its board, the whole history, the floor and the posted count of faults, the floor and the count that it has seen in notes, the pins that are out, each with its time at its number, the sessions that it bears, the enrolments, the newest first, and the entries in doubt
 pub record Kept (E : Type 0) : Type 0 where
-  pub board : TableId
+  pub board : BoardId
   pub seen : List E
   pub floor : ℕ
   pub posted : ℕ
@@ -30,7 +30,7 @@ pub record Kept (E : Type 0) : Type 0 where
 
 -- a pin: what a note has, but that it bears no session, and its number and its time
 pub record Pinned (E : Type 0) : Type 0 where
-  pub board : TableId
+  pub board : BoardId
   pub seen : List E
   pub floor : ℕ
   pub count : ℕ
@@ -38,13 +38,13 @@ pub record Pinned (E : Type 0) : Type 0 where
   pub time : ℕ
 
 module _ {E : Type 0} where
-  abbrev pub seen_of : TableId → View E → Seen E
+  abbrev pub seen_of : BoardId → View E → Seen E
   seen_of z v = record { board = z; seen = v.seen; floor = v.floor_seen; count = v.count_seen; bears = v.bears }
 
-  abbrev pub pinned_of : TableId → View E → Pinned E
+  abbrev pub pinned_of : BoardId → View E → Pinned E
   pinned_of z v = record { board = z; seen = v.seen; floor = v.floor_seen; count = v.count_seen; number = v.number; time = v.time }
 
-  abbrev pub kept_of : TableId → View E → Kept E
+  abbrev pub kept_of : BoardId → View E → Kept E
   kept_of z v = record { board = z; seen = v.seen; floor = v.floor; posted = v.posted; floor_seen = v.floor_seen; count = v.count_seen; out = v.out; bears = v.bears; since = v.since; doubt = v.doubt }
 
 module _ {E : Type 0} where

@@ -1,4 +1,4 @@
--- The views of a board: those that steps begin with, and those that they leave.
+-- Private: the views of a board: those that steps begin with, and those that they leave.
 use Rattle.std.specs.Prelude.{◌≡◌, ℕ, true, false, List, [], ◌∷◌, ◌++◌, max, if◌then◌else◌, slice_set, None, map, length}
 use Rattle.history_board.specs.declared.view.View.{View}
 use Rattle.history_board.specs.declared.view.Bearing.{Bearing}

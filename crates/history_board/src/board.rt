@@ -21,11 +21,11 @@ pub struct HistoryBoard<E: Made> {
 
 impl<E: Made> Model for HistoryBoard<E> {
     ghost use Rattle.std.specs.Prelude.{◌≡◌};
-    ghost use Rattle.atomic_table.specs.Seated.{TableId, table_id_coded};
+    ghost use Rattle.history_board.specs.Boards.{BoardId, board_id_coded};
 
-    ghost Value = { TableId };
+    ghost Value = { BoardId };
 
-    ghost coded = { table_id_coded };
+    ghost coded = { board_id_coded };
 
     ghost view = { λ b. b.table.shared.table_id };
 

@@ -1,10 +1,11 @@
 // Callers of the board, as its page shows them. They are proved with the tests.
-ghost use Rattle.std.specs.Prelude.{◌≡◌, ◌+◌, ◌^◌, ◌<◌, ◌++◌, ◌∷◌, [], length, Contains, Some, slice_get, IfOk, IfSome, option_copied, option_to_list};
+ghost use Rattle.std.specs.Prelude.{◌≡◌, ◌+◌, ◌^◌, ◌<◌, ◌≤◌, ◌++◌, ◌∷◌, [], length, Contains, Some, slice_get, IfOk, IfSome, option_copied, option_to_list};
 ghost use mathlib.Core.List.{IsPrefix};
 ghost use Rattle.history_board.specs.declared.view.Bearing.{Bearing};
 ghost use Rattle.history_board.specs.Bearings.{placed, IsAbove};
 
-use crate::{HistoryBoard, Keeper, Made, Note, Pin, Want};
+use crate::{HistoryBoard, Keeper, Made, Note, Pin};
+use base_core::Want;
 
 /// Commits two entries, and pins the time of the second. A note from between them meets one that saw both.
 pub fn commit_twice<E: Made>(
@@ -31,6 +32,37 @@ pub fn commit_twice<E: Made>(
     copy.meet(board, late);
     early.meet(board, copy);
     Ok((early, pin))
+}
+
+/// Pins the newest time for the holder of a note, who lends a copy of it. That time is not below what the note had seen.
+pub fn pin_for<E: Made>(
+    keeper: &mut Keeper<E>,
+    board: &HistoryBoard<E>,
+    note: &mut Note<E>,
+    newest: u64,
+) -> Result<Pin<E>, Want>
+    requires boards { (board.now ≡ keeper.old.board) × (note.old.board ≡ board.now) }
+    requires newest { newest ≡ length keeper.old.seen }
+    ensures above { IfOk result (λ p. length note.old.seen ≤ p.time) }
+    ensures onward { IfOk result (λ p. IsPrefix note.old.seen p.seen) }
+    ensures note { note.new ≡ note.old }
+    ensures history { keeper.new.seen ≡ keeper.old.seen }
+    ensures board { keeper.new.board ≡ keeper.old.board }
+    ensures pin { IfOk result (λ p. p.board ≡ keeper.old.board) }
+{
+    keeper.meet(note.copy(board));
+    keeper.pin(newest)
+}
+
+/// The keeper meets what a pin has seen. The pin stays out.
+pub fn meet_pin<E: Made>(keeper: &mut Keeper<E>, board: &HistoryBoard<E>, pin: &mut Pin<E>)
+    requires boards { (board.now ≡ keeper.old.board) × (pin.old.board ≡ board.now) }
+    ensures known { IsPrefix pin.old.seen keeper.old.seen }
+    ensures stays { (pin.new ≡ pin.old) × (keeper.new.out ≡ keeper.old.out) }
+    ensures history { keeper.new.seen ≡ keeper.old.seen }
+    ensures board { keeper.new.board ≡ keeper.old.board }
+{
+    keeper.meet(pin.copy_note(board));
 }
 
 /// A session's note goes to the keeper for a commit and comes back. The entry is the session's own then, and where there is

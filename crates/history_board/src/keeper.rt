@@ -1,5 +1,6 @@
-ghost use Rattle.std.specs.Prelude.{◌≡◌, ◌+◌, ◌^◌, ◌<◌, ◌≤◌, ◌++◌, ◌∷◌, None, [], length, map, slice_set, Contains, IfOk, OnErr};
+ghost use Rattle.std.specs.Prelude.{◌≡◌, ◌+◌, ◌^◌, ◌<◌, ◌≤◌, ◌++◌, ◌∷◌, None, [], length, map, max, slice_set, Contains, IfOk, OnErr};
 ghost use Rattle.std.specs.Arc.{arc_value};
+ghost use mathlib.Core.List.{IsPrefix};
 ghost use Rattle.history_board.specs.Bearings.{makes};
 ghost use Rattle.history_board.specs.Pins.{IsFree, put_out};
 ghost use Rattle.history_board.specs.Tokens.{IsSound, IsNew, MayCommit};
@@ -9,9 +10,9 @@ use crate::made::Made;
 use crate::note::Note;
 use crate::out;
 use crate::pin::Pin;
-use crate::want::Want;
 use atomic_table::Table;
-use std::alloc::{AllocError, Global};
+use base_core::Want;
+use std::alloc::Global;
 use std::marker::{Brand, Model};
 use std::sync::Arc;
 
@@ -44,7 +45,7 @@ pub fn make<E: Made>(alloc: Global) -> Result<Keeper<E>, Want>
     ensures { IfOk result IsNew }
 {
     let (table, seat) = Table::of_words(alloc, &[0, 0, 0], &0)?;
-    let board = Arc::new(alloc, HistoryBoard { table }).map_err(AllocError::from)?;
+    let board = Arc::new(alloc, HistoryBoard { table })?;
     Ok(Keeper {
         board,
         seat,
@@ -118,6 +119,30 @@ impl<E: Made> Keeper<E> {
         self.board.take_pin(&mut self.seat, seat);
         self.board.look(&mut self.seat);
         out::take(&mut self.out, number);
+    }
+
+    /// Takes in a note that bears no session. What the note had seen is a beginning of the history.
+    pub fn meet(&mut self, note: Note<E>)
+        requires board { note.board ≡ self.old.board }
+        requires free { note.bears ≡ [] }
+        ensures kept { self.new ≡ record self.old { floor_seen = max self.old.floor_seen note.floor; count = max self.old.count note.count } }
+        ensures known { IsPrefix note.seen self.old.seen }
+        ensures sound { IsSound E.session_of E.command_of self.new }
+    {
+        self.take_in(note);
+    }
+
+    // Takes in a note with what it bears.
+    pub(crate) fn take_in(&mut self, note: Note<E>)
+        requires board { note.board ≡ self.old.board }
+        ensures kept { self.new ≡ record self.old { bears = self.old.bears ++ note.bears; floor_seen = max self.old.floor_seen note.floor; count = max self.old.count note.count } }
+        ensures known { IsPrefix note.seen self.old.seen }
+        ensures sound { IsSound E.session_of E.command_of self.new }
+    {
+        let Note { floor, seat } = note;
+        self.board.join(&mut self.seat, seat);
+        self.board.look(&mut self.seat);
+        self.floor_seen = self.floor_seen.max(floor);
     }
 
     /// Posts the commit disk's count of faults.

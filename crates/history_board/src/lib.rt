@@ -15,7 +15,6 @@ mod pin;
 mod sessions;
 mod told;
 mod view;
-mod want;
 
 pub use board::HistoryBoard;
 pub use keeper::{Keeper, make};
@@ -23,7 +22,6 @@ pub use made::Made;
 pub use note::Note;
 pub use pin::Pin;
 pub use view::{Bearing, Enrolment, Placed};
-pub use want::Want;
 
 #[cfg(test)]
 mod tests;

@@ -2,8 +2,7 @@
 ghost use Rattle.std.specs.Prelude.{◌≡◌, ◌<◌, None, Some, ◌≤◌, length, slice_get, slice_set, IfOk, OnErr, vec_len};
 ghost use Rattle.history_board.specs.Pins.{IsFree, put_out};
 
-use crate::want::Want;
-use std::alloc::AllocError;
+use base_core::Want;
 
 // The first number that no pin has.
 fn free_number(out: &[Option<u64>]) -> usize
@@ -27,7 +26,7 @@ pub(crate) fn put(out: &mut Vec<Option<u64>>, time: u64) -> Result<u64, Want>
     if number < out.len() {
         out[number] = Some(time);
     } else {
-        out.push(Some(time)).map_err(AllocError::from)?;
+        out.push(Some(time))?;
     }
     Ok(number as u64)
 }

@@ -78,9 +78,6 @@ impl<E: Made> Keeper<E> {
         ensures known { IsPrefix seen.seen self.old.seen }
         ensures sound { IsSound E.session_of E.command_of self.new }
     {
-        let Note { floor, seat } = seen;
-        self.board.join(&mut self.seat, seat);
-        self.board.look(&mut self.seat);
-        self.floor_seen = self.floor_seen.max(floor);
+        self.take_in(seen);
     }
 }

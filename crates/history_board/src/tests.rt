@@ -1,6 +1,6 @@
 ghost use Rattle.std.specs.Prelude.{◌≡◌};
 
-use crate::caller::{commit_as, commit_twice};
+use crate::caller::{commit_as, commit_twice, meet_pin, pin_for};
 use crate::{Keeper, Made, make};
 use std::test::Fail;
 
@@ -88,6 +88,20 @@ fn a_caller_commits_twice(rt: HostRuntime) -> Result<(), Fail> {
     let second = made_by(0, 2);
     let (note, pin) = commit_twice(&mut keeper, &board, &first, &second)?;
     assert_eq!(rt; (note.floor(), pin.time()), (0, 2));
+    keeper.release(pin);
+    Ok(())
+}
+
+#[test]
+fn the_keeper_meets_a_note_and_a_pin(rt: HostRuntime) -> Result<(), Fail> {
+    let mut keeper: Keeper<Entry> = make(rt.alloc())?;
+    let board = keeper.share()?;
+    let mut note = keeper.note();
+    assert_eq!(rt; keeper.commit(&made_by(0, 1)), 1);
+    let mut pin = pin_for(&mut keeper, &board, &mut note, 1)?;
+    meet_pin(&mut keeper, &board, &mut pin);
+    keeper.meet(note);
+    assert_eq!(rt; pin.time(), 1);
     keeper.release(pin);
     Ok(())
 }
