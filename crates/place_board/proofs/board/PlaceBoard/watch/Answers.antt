@@ -1,0 +1,9 @@
+use Rattle.std.proofs.Common.{sym, ◌∙◌, arith}
+use Rattle.place_board.proofs.Asking.{watch_asked}
+use Rattle.place_board.proofs.board.PlaceBoard.watch.Goals as goal
+
+pub load-requires : goal.load-requires
+load-requires c =
+    let words = c.self.invariant in
+    let n = c.requires.borne in
+    (c.requires.board ∙ sym c.self.view_is, omega (arith, n.2), watch_asked _ _ _ c.args.number c.requires.seat.0 c.requires.seat.1 n.0 n.1 n.2)

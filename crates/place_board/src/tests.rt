@@ -1,0 +1,91 @@
+ghost use Rattle.std.specs.Prelude.{◌≡◌, IfOk};
+ghost use Rattle.place_board.specs.Tokens.{new_service};
+
+use crate::caller::live_and_retire;
+use crate::{ListSeat, Look, PlaceFault, ServiceSeat, make_places};
+use base_core::Want;
+use fed_bytes::{Key, Span};
+use std::alloc::Global;
+use std::test::Fail;
+
+fn all_keys(alloc: Global) -> Result<Span, Fail> {
+    Ok(Span {
+        left: Key::of(alloc, &[])?,
+        right: None,
+    })
+}
+
+// The seat of the one service of a new board, and the list's.
+fn one_service(alloc: Global) -> Result<(ServiceSeat, ListSeat), Fail>
+    ensures { IfOk result (λ r. r.0 ≡ new_service r.1.noted.board 0) }
+{
+    let (seats, list) = make_places(alloc, 1)?;
+    let mut seats = seats.into_items();
+    match seats.pop() {
+        Some(service) => Ok((service, list)),
+        None => Err(Fail::from(Want::NoMemory)),
+    }
+}
+
+// The first numbers of two services.
+fn first_numbers(alloc: Global) -> Result<Vec<u32>, Fail> {
+    let span = all_keys(alloc)?;
+    let (seats, _list) = make_places(alloc, 2)?;
+    let mut numbers = Vec::new(alloc);
+    'seats: for mut seat in seats.into_items() {
+        numbers.push(seat.birth(0, &span)?.0)?;
+        numbers.push(seat.birth(1, &span)?.0)?;
+    }
+    Ok(numbers)
+}
+
+// The last number that the service bears.
+fn last_number(service: &mut ServiceSeat, span: &Span) -> Option<u32> {
+    let mut last = None;
+    'births: for _ in 0..2049 {
+        match service.birth(0, span) {
+            Ok((number, _note)) => last = Some(number),
+            Err(PlaceFault::Spent) => return last,
+        }
+    }
+    None
+}
+
+#[test]
+fn each_service_has_its_own_numbers(rt: HostRuntime) -> Result<(), Fail> {
+    let numbers = first_numbers(rt.alloc())?;
+    assert_eq!(rt; numbers.as_slice(), [0, 1, 2048, 2049].as_slice());
+    Ok(())
+}
+
+#[test]
+fn the_number_after_the_last_is_refused(rt: HostRuntime) -> Result<(), Fail> {
+    let span = all_keys(rt.alloc())?;
+    let (mut service, _list) = one_service(rt.alloc())?;
+    assert_eq!(rt; last_number(&mut service, &span), Some(2047));
+    Ok(())
+}
+
+#[test]
+fn notes_go_from_seat_to_seat(rt: HostRuntime) -> Result<(), Fail> {
+    let (mut service, mut list) = one_service(rt.alloc())?;
+    let board = list.share()?;
+    service.post(3);
+    let mut note = service.know();
+    let copy = note.copy(&board);
+    note.meet(&board, copy);
+    list.meet(note);
+    service.is_sound();
+    list.is_sound();
+    assert_eq!(rt; list.services(), 1);
+    Ok(())
+}
+
+#[test]
+fn a_retired_number_is_found_so(rt: HostRuntime) -> Result<(), Fail> {
+    let span = all_keys(rt.alloc())?;
+    let (mut service, mut list) = one_service(rt.alloc())?;
+    let (number, found) = live_and_retire(&mut list, &mut service, 0, &span)?;
+    assert_eq!(rt; (number, found), (0, Look::Retired));
+    Ok(())
+}
