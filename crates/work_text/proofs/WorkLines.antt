@@ -1,6 +1,6 @@
 -- What stands on the lines of a work, and that it stands on no other line.
 use Rattle.std.proofs.Common.{◌≡◌, ℕ, suc, zero, ◌<◌, ◌≤◌, Bool, true, false, List, [], ◌∷◌, ◌++◌, length, map, codes, inl, inr, refl, sym, ap, subst, ◌∙◌, Option, Some, None, Result, Ok, Err, MatchOption, MatchResult, Bor, ◌==◌, arith}
-use Rattle.std.specs.Prelude.{◌&&◌}
+use Rattle.std.specs.Prelude.{◌&&◌, IfOk}
 use Rattle.std.specs.List.{list_all, AllByRecursion}
 use Rattle.std.specs.Fmt.{decimal, digits}
 use Rattle.std.specs.Str.{IsUtf8, IsAscii}
@@ -13,7 +13,9 @@ use Rattle.work_text.specs.declared.work.Command.{Command}
 use Rattle.work_text.specs.declared.work.Command.TheVariants.{Load, Unload, Query, QueryFile}
 use Rattle.work_text.specs.declared.work.Line.{Line}
 use Rattle.work_text.specs.Work.{is_name_byte, IsName, IsCommand, IsLine, command_text, line_text, spelled, AreLines, IsFront}
-use Rattle.work_text.specs.WorkReading.{IsReadingOf, IsNameOf, begun, AreBegun}
+use Rattle.work_text.specs.declared.read_line.DocumentVerb.TheVariants as verbs
+use Rattle.work_text.specs.Verbs.{IsNamedLine}
+use Rattle.work_text.specs.WorkReading.{IsReadingOf, begun, AreBegun}
 
 -- ---- names
 
@@ -116,11 +118,6 @@ no_command text no_load no_unload no_file no_query line good e =
     (λ name is. no_file name (e ∙ line_text-is line good ∙ ap (λ (rest : List ℕ). 49 ∷ 32 ∷ rest) is))
     (λ query is. no_query query (e ∙ line_text-is line good ∙ ap (λ (rest : List ℕ). 49 ∷ 32 ∷ rest) is)) refl
 
--- where the bytes are no name, none was found
-pub no_name : (bytes : List ℕ) (found : Option (List ℕ)) → IsNameOf bytes found → ((name : List ℕ) → found ≡ Some name → ⊥) → IsName bytes → ⊥
-no_name bytes None named other good = named good
-no_name bytes (Some name) named other good = other name refl
-
 -- a line that is this command of session 1
 said : (text : List ℕ) (line : Line) (command : Command) → line ≡ record { session = 1; command = command } → IsCommand command
     → text ≡ 49 ∷ 32 ∷ command_text command → IsReadingOf text (Some line)
@@ -129,25 +126,25 @@ said text line command same good is =
     subst (λ (l : Line). IsLine l × (text ≡ line_text l)) (sym same) (record { session = refl; command = good }, is)
 
 -- the line that puts a document in
-pub load_line : (text bytes name : List ℕ) (found : Option (List ℕ)) (line : Line) → text ≡ codes "1 load " ++ bytes
-    → IsNameOf bytes found → found ≡ Some name → line ≡ record { session = 1; command = Load name } → IsReadingOf text (Some line)
-load_line text bytes name found line is named some same =
-    let good : IsName name × (bytes ≡ name) = subst (IsNameOf bytes) some named in
-    said text line (Load name) same good.0 (is ∙ ap (λ (n : List ℕ). codes "1 load " ++ n) good.1)
+pub load_line : {E : Type 0} (text bytes : List ℕ) (read : Result (Option Line) E) → text ≡ codes "1 load " ++ bytes
+    → IfOk read (IsNamedLine verbs.Load bytes) → IfOk read (IsReadingOf text)
+load_line text bytes (Ok None) is bad = no_load text bytes is bad
+load_line text bytes (Ok (Some line)) is named = said text line (Load bytes) named.1 named.0 is
+load_line text bytes (Err e) is named = named
 
 -- the line that takes a document out
-pub unload_line : (text bytes name : List ℕ) (found : Option (List ℕ)) (line : Line) → text ≡ codes "1 unload " ++ bytes
-    → IsNameOf bytes found → found ≡ Some name → line ≡ record { session = 1; command = Unload name } → IsReadingOf text (Some line)
-unload_line text bytes name found line is named some same =
-    let good : IsName name × (bytes ≡ name) = subst (IsNameOf bytes) some named in
-    said text line (Unload name) same good.0 (is ∙ ap (λ (n : List ℕ). codes "1 unload " ++ n) good.1)
+pub unload_line : {E : Type 0} (text bytes : List ℕ) (read : Result (Option Line) E) → text ≡ codes "1 unload " ++ bytes
+    → IfOk read (IsNamedLine verbs.Unload bytes) → IfOk read (IsReadingOf text)
+unload_line text bytes (Ok None) is bad = no_unload text bytes is bad
+unload_line text bytes (Ok (Some line)) is named = said text line (Unload bytes) named.1 named.0 is
+unload_line text bytes (Err e) is named = named
 
 -- the line that asks the query of a document
-pub query_file_line : (text bytes name : List ℕ) (found : Option (List ℕ)) (line : Line) → text ≡ codes "1 queryfile " ++ bytes
-    → IsNameOf bytes found → found ≡ Some name → line ≡ record { session = 1; command = QueryFile name } → IsReadingOf text (Some line)
-query_file_line text bytes name found line is named some same =
-    let good : IsName name × (bytes ≡ name) = subst (IsNameOf bytes) some named in
-    said text line (QueryFile name) same good.0 (is ∙ ap (λ (n : List ℕ). codes "1 queryfile " ++ n) good.1)
+pub query_file_line : {E : Type 0} (text bytes : List ℕ) (read : Result (Option Line) E) → text ≡ codes "1 queryfile " ++ bytes
+    → IfOk read (IsNamedLine verbs.QueryFile bytes) → IfOk read (IsReadingOf text)
+query_file_line text bytes (Ok None) is bad = no_query_file text bytes is bad
+query_file_line text bytes (Ok (Some line)) is named = said text line (QueryFile bytes) named.1 named.0 is
+query_file_line text bytes (Err e) is named = named
 
 -- the line that asks a query
 pub query_line : (text query found : List ℕ) (line : Line) → text ≡ codes "1 query " ++ query → (query ≡ [] → ⊥) → found ≡ query

@@ -2,15 +2,15 @@
 use Rattle.std.proofs.Common.{◌≡◌, ℕ, ◌+◌, Bool, true, false, cond, List, [], ◌∷◌, ◌++◌, length, map, inl, inr, refl, sym, ap, subst, ◌∙◌, Option, Some, None, Result, Ok, Err, MatchResult, append_assoc, arith}
 use Rattle.std.specs.Prelude.{IfOk, IfErr}
 use Rattle.std.proofs.lemmas.List.{append-nil, map-append}
-use Rattle.term_core.specs.declared.lines.LineEnd.TheVariants.{LineFeed}
-use Rattle.term_core.specs.Lines.{lines_of}
+use Rattle.base_core.specs.declared.lines.LineEnd.TheVariants.{LineFeed}
+use Rattle.base_core.specs.Lines.{lines_of}
 use Rattle.work_text.specs.declared.work.Line.{Line}
 use Rattle.work_text.specs.declared.work.Work.{Work}
 use Rattle.work_text.specs.declared.read.WorkFault.{WorkFault}
 use Rattle.work_text.specs.declared.read.WorkFault.TheVariants.{NoMemory, BadWork}
-use Rattle.work_text.specs.Faults.{HasCause, IsNoMemory}
-use Rattle.work_text.specs.Work.{is_skipped, numbered, written, spelled, IsWork, IsFront, Stops, IsBadLine}
-use Rattle.work_text.specs.WorkReading.{begun, AreBegun, unskipped, GoesOn, CannotGoOn}
+use Rattle.work_text.specs.Faults.{IsWorkFault, IsNoMemory}
+use Rattle.work_text.specs.Work.{is_skipped, numbered, written, spelled, IsWork, IsFront, Stops, IsBadWorkLine}
+use Rattle.work_text.specs.WorkReading.{begun, AreBegun, unskipped, WorkGoesOn, CannotGoOn}
 use Rattle.work_text.proofs.WorkLines.{same_spelled, IsFront-of, IsFront-begun}
 
 abbrev pub texts_of : List (ℕ × List ℕ) → List (List ℕ)
@@ -49,7 +49,7 @@ own-texts number line = cond_text (is_skipped line) number line
 
 -- with a line that was taken
 pub IsScanned-more : (bytes rest behind line : List ℕ) (number : ℕ) (read next : Option (List Line))
-    → lines_of LineFeed rest ≡ line ∷ lines_of LineFeed behind → GoesOn read line next
+    → lines_of LineFeed rest ≡ line ∷ lines_of LineFeed behind → WorkGoesOn read line next
     → IsScanned bytes rest number read → IsScanned bytes behind (number + 1) next
 IsScanned-more bytes rest behind line number read next cut goes so_far =
     let lines = lines_of LineFeed behind in
@@ -70,11 +70,11 @@ cond_none true x y e = absurd cc
 cond_none false x y e = refl
 
 -- with a line that can't follow
-pub HasCause-stop : (bytes rest behind line : List ℕ) (number : ℕ) (read : Option (List Line)) (fault : WorkFault)
+pub IsWorkFault-stop : (bytes rest behind line : List ℕ) (number : ℕ) (read : Option (List Line)) (fault : WorkFault)
     → lines_of LineFeed rest ≡ line ∷ lines_of LineFeed behind → CannotGoOn read line number fault
-    → IsScanned bytes rest number read → HasCause bytes fault
-HasCause-stop bytes rest behind line number read NoMemory cut stop so_far = tt
-HasCause-stop bytes rest behind line number read (BadWork bad) cut stop so_far =
+    → IsScanned bytes rest number read → IsWorkFault bytes fault
+IsWorkFault-stop bytes rest behind line number read NoMemory cut stop so_far = tt
+IsWorkFault-stop bytes rest behind line number read (BadWork bad) cut stop so_far =
     let others = numbered (number + 1) (lines_of LineFeed behind) in
     let next : numbered number (line ∷ lines_of LineFeed behind) ≡ (number, line) ∷ others = cond_none (is_skipped line) others ((number, line) ∷ others) stop.1 in
     let stops : Stops bytes number = record {
@@ -85,7 +85,7 @@ HasCause-stop bytes rest behind line number read (BadWork bad) cut stop so_far =
       good = subst IsFront (sym so_far.texts) (IsFront-begun read so_far.good);
       outside = λ more. stop.2 (subst (λ (ls : List (List ℕ)). IsFront (ls ++ line ∷ [])) so_far.texts more);
     } in
-    subst (IsBadLine bytes) (sym stop.0) (inl stops)
+    subst (IsBadWorkLine bytes) (sym stop.0) (inl stops)
 
 -- at the end
 scanned_all : (bytes rest : List ℕ) (number : ℕ) (read : Option (List Line)) → rest ≡ [] → (s : IsScanned bytes rest number read) → written bytes ≡ s.front
@@ -100,8 +100,8 @@ no_texts : (lines : List (ℕ × List ℕ)) → texts_of lines ≡ [] → lines 
 no_texts [] e = refl
 no_texts (line ∷ lines) e = absurd cc
 
-pub IsBadLine-from : (bytes rest : List ℕ) (number : ℕ) → rest ≡ [] → IsScanned bytes rest number None → IsBadLine bytes number
-IsBadLine-from bytes rest number ended s =
+pub IsBadWorkLine-from : (bytes rest : List ℕ) (number : ℕ) → rest ≡ [] → IsScanned bytes rest number None → IsBadWorkLine bytes number
+IsBadWorkLine-from bytes rest number ended s =
     let none : length (lines_of LineFeed rest) ≡ 0 = ap (λ (r : List ℕ). length (lines_of LineFeed r)) ended in
     inr (scanned_all bytes rest number None ended s ∙ no_texts s.front s.texts, omega (arith, s.count))
 
@@ -114,7 +114,7 @@ same_work : (bytes : List ℕ) (a b : Work) → IsWork bytes a → IsWork bytes 
 unfolding work_of
 same_work bytes a b is_a is_b = ap work_of (same_spelled a.lines b.lines is_a.lines is_b.lines (sym is_a.text ∙ is_b.text))
 
-no_work : (bytes : List ℕ) (number : ℕ) (work : Work) → IsWork bytes work → IsBadLine bytes number → ⊥
+no_work : (bytes : List ℕ) (number : ℕ) (work : Work) → IsWork bytes work → IsBadWorkLine bytes number → ⊥
 no_work bytes number work is (inl stops) =
     let front = texts_of stops.front in
     let rest = texts_of stops.rest in
@@ -124,7 +124,7 @@ no_work bytes number work is (inr none) =
     let texts : [] ≡ spelled work.lines = sym (ap texts_of none.0) ∙ is.text in
     absurd cc
 
-pub only_work : (bytes : List ℕ) (result : Result Work WorkFault) → IfOk result (IsWork bytes) → IfErr result (HasCause bytes)
+pub only_work : (bytes : List ℕ) (result : Result Work WorkFault) → IfOk result (IsWork bytes) → IfErr result (IsWorkFault bytes)
     → (work : Work) → IsWork bytes work → MatchResult result (λ found. found ≡ work) IsNoMemory
 only_work bytes (Ok found) ok err work is = same_work bytes found work ok is
 only_work bytes (Err NoMemory) ok err work is = tt

@@ -1,4 +1,4 @@
--- The documents of a shelf in memory, by their numbers.
+-- Private: the documents of a shelf in memory, by their numbers.
 use Rattle.std.specs.Prelude.{ℕ, List, [], drop, unwrap_or}
 use Rattle.std.specs.List.{slice_get}
 use Rattle.std.specs.Option.{option_map}

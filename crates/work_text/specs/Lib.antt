@@ -4,5 +4,6 @@ pub mod Memory
 pub mod Outside
 pub mod Plans
 pub mod Report
+pub mod Verbs
 pub mod Work
 pub mod WorkReading

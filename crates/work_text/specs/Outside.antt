@@ -4,15 +4,6 @@ use Rattle.std.specs.Cmp.Lexicographic.{pointwise}
 use Rattle.work_text.specs.declared.docs.Doc.{Doc}
 use Rattle.work_text.specs.declared.docs.Doc.TheVariants.{Bytes, Missing, TooLarge}
 
--- a count of faults has risen; one that stands at its last value counts as risen
-abbrev pub HasRisen : ℕ → ℕ → Type 0
-HasRisen before now = (before < now) ⊎ (now ≡ 2 ^ 64 - 1)
-
--- the count of faults doesn't fall, and a fault is answered only where it has risen
-pub record IsCounted {T E : Type 0} (before now : ℕ) (result : Result T E) : Type 0 where
-  pub later : before ≤ now
-  pub cause : OnErr result (HasRisen before now)
-
 -- the bytes of the first document of that name
 abbrev pub document_named : List (List ℕ × List ℕ) → List ℕ → Option (List ℕ)
 document_named [] name = None

@@ -5,7 +5,7 @@ use Rattle.std.specs.Fmt.{decimal}
 use Rattle.bgp_model.specs.declared.solution.Solution.{Solution}
 use Rattle.bgp_model.specs.Row.{line_of}
 use Rattle.change_model.specs.declared.history.Origin.{Origin}
-use Rattle.query_text.specs.Refusals.{printed}
+use Rattle.bgp_model.specs.Words.{printed}
 use Rattle.work_text.specs.declared.report.Outcome.{Outcome}
 use Rattle.work_text.specs.declared.report.Outcome.TheVariants.{Changed, Answered, NoDocument, DocumentTooLarge, BadLine, TermTooLong, TooManyStatements, LabelInRemoval, QueryAt, QueryLeftOut, TooManyPatterns, TooManyRows}
 use Rattle.work_text.specs.declared.report.RunReport.{RunReport}

@@ -2,9 +2,9 @@
 use Rattle.std.specs.Prelude.{◌≡◌, ◌≢◌, ℕ, ◌+◌, ◌≤◌, Bool, true, ◌||◌, List, [], ◌∷◌, ◌++◌, length, map, IsTrue, ◌==◌, if◌then◌else◌, codes, ◌⊎◌}
 use Rattle.std.specs.List.{list_all, AllByRecursion}
 use Rattle.std.specs.Fmt.{decimal}
-use Rattle.term_core.specs.declared.lines.LineEnd.TheVariants.{LineFeed}
+use Rattle.base_core.specs.declared.lines.LineEnd.TheVariants.{LineFeed}
 use Rattle.term_core.specs.Characters.{is_digit, is_letter}
-use Rattle.term_core.specs.Lines.{lines_of}
+use Rattle.base_core.specs.Lines.{lines_of}
 use Rattle.work_text.specs.declared.work.Command.{Command}
 use Rattle.work_text.specs.declared.work.Command.TheVariants.{Load, Unload, Query, QueryFile}
 use Rattle.work_text.specs.declared.work.Line.{Line}
@@ -85,6 +85,6 @@ pub record Stops (bytes : List ℕ) (number : ℕ) : Type 0 where
   pub outside : IsFront (map (λ line. line.1) front ++ bad ∷ []) → ⊥
 
 -- The first line outside the grammar. Where all lines are skipped it is the one behind the last.
-abbrev pub IsBadLine : List ℕ → ℕ → Type 0
-IsBadLine bytes number =
+abbrev pub IsBadWorkLine : List ℕ → ℕ → Type 0
+IsBadWorkLine bytes number =
     Stops bytes number ⊎ ((written bytes ≡ []) × (number ≡ length (lines_of LineFeed bytes) + 1))

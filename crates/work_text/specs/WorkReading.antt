@@ -1,4 +1,4 @@
--- What is read of a work line by line.
+-- Private: what is read of a work line by line.
 use Rattle.std.specs.Prelude.{◌≡◌, ℕ, false, List, [], ◌∷◌, ◌++◌, Option, Some, None, if◌then◌else◌}
 use Rattle.work_text.specs.declared.read.WorkFault.{WorkFault}
 use Rattle.work_text.specs.declared.read.WorkFault.TheVariants.{NoMemory, BadWork}
@@ -18,7 +18,7 @@ abbrev pub unskipped : List ℕ → List (List ℕ)
 unskipped line = if is_skipped line then [] else line ∷ []
 
 -- what was read goes on with this line to what is read then
-pub record GoesOn (read : Option (List Line)) (line : List ℕ) (next : Option (List Line)) : Type 0 where
+pub record WorkGoesOn (read : Option (List Line)) (line : List ℕ) (next : Option (List Line)) : Type 0 where
   pub texts : begun next ≡ begun read ++ unskipped line
   pub good : AreBegun read → AreBegun next
 

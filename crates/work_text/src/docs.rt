@@ -1,5 +1,5 @@
 //! What was read under a name.
-use term_core::List;
+use base_core::List;
 
 /// A document as it was read, up to a limit.
 #[derive(Debug, Drop)]

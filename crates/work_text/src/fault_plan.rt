@@ -1,7 +1,7 @@
 //! Which calls of a memory form fail.
 ghost use Rattle.std.specs.Prelude.{◌≡◌, ◌≤◌, is_err};
-ghost use Rattle.work_text.specs.Memory.{fails_next, after_call, after_fault};
-ghost use Rattle.work_text.specs.Outside.{IsCounted, HasRisen};
+ghost use Rattle.work_text.specs.Memory.{IsFresh, fails_next, after_call, after_fault, after_starving};
+ghost use Rattle.base_core.specs.Faults.{IsCounted, HasRisen};
 
 use crate::outside::Failed;
 
@@ -11,16 +11,19 @@ pub struct FaultPlan {
     fails: Vec<u64>,
     calls: u64,
     faults: u64,
+    /// How many calls failed for want of memory.
+    starved: u64,
 }
 
 impl FaultPlan {
     pub fn new(fails: Vec<u64>) -> FaultPlan
-        ensures { result ≡ record { fails = fails; calls = 0; faults = 0 } }
+        ensures { IsFresh fails.items result }
     {
         FaultPlan {
             fails,
             calls: 0,
             faults: 0,
+            starved: 0,
         }
     }
 
@@ -28,6 +31,12 @@ impl FaultPlan {
         ensures { result ≡ self.now.faults }
     {
         self.faults
+    }
+
+    pub fn starved(&self) -> u64
+        ensures { result ≡ self.now.starved }
+    {
+        self.starved
     }
 
     /// Counts a call, and fails where it is to.
@@ -43,8 +52,18 @@ impl FaultPlan {
         Ok(())
     }
 
+    /// A call that has begun fails for want of memory.
+    pub fn starve(&mut self) -> Failed
+        ensures after { self.new ≡ after_starving self.old }
+        ensures later { self.old.faults ≤ self.new.faults }
+        ensures risen { HasRisen self.old.faults self.new.faults }
+    {
+        self.starved = self.starved.saturating_add(1);
+        self.fault()
+    }
+
     /// Counts a fault.
-    pub fn fault(&mut self) -> Failed
+    fn fault(&mut self) -> Failed
         ensures after { self.new ≡ after_fault self.old }
         ensures later { self.old.faults ≤ self.new.faults }
         ensures risen { HasRisen self.old.faults self.new.faults }

@@ -5,8 +5,8 @@ ghost use Rattle.work_text.specs.Documents.{bytes_at, left_at};
 
 use crate::fault_plan::FaultPlan;
 use crate::outside::{Failed, Shelf};
+use base_core::{List, Text, Want};
 use std::alloc::Global;
-use term_core::{List, Text, Want};
 
 /// Documents in memory. It tells them, and chosen calls of `fetch` and `read` fail.
 #[derive(Debug, Drop)]
@@ -24,7 +24,8 @@ impl MemoryShelf {
     ghost use Rattle.std.specs.Prelude.{◌≡◌, ◌+◌, ◌-◌, ◌^◌, ◌<◌, [], length, Some, IfOk};
     ghost use Rattle.std.specs.List.{zip};
     ghost use Rattle.work_text.specs.Documents.{left_at};
-    ghost use Rattle.work_text.specs.Plans.{shelf_fails};
+    ghost use Rattle.work_text.specs.Memory.{IsFresh};
+    ghost use Rattle.work_text.specs.Plans.{shelf_plan};
 
     /// A shelf whose k-th document has the k-th name. The calls of `fetch` and `read` are counted together from 1,
     /// and those with a number in `fails` fail.
@@ -38,7 +39,7 @@ impl MemoryShelf {
         ensures documents { IfOk result (λ made. ⟦<MemoryShelf as Shelf>⟧.documents made ≡ Some (zip names documents)) }
         ensures left { IfOk result (λ made. ⟦<MemoryShelf as Shelf>⟧.left made ≡ Some []) }
         ensures faults { IfOk result (λ made. ⟦<MemoryShelf as Shelf>⟧.fault_count made ≡ 0) }
-        ensures fails { IfOk result (λ made. shelf_fails made ≡ fails.items) }
+        ensures plan { IfOk result (λ made. IsFresh fails.items (shelf_plan made)) }
     {
         let documents: Vec<(Text, List<u8>)> = names
             .into_items()
@@ -67,17 +68,29 @@ impl MemoryShelf {
 }
 
 impl Shelf for MemoryShelf {
-    ghost documents = { λ shelf. Some shelf.documents.items };
+    ghost use Rattle.std.specs.Prelude.{◌≡◌, ◌≤◌, ◌<◌, Some, length, take, IfOk, OnOk};
+    ghost use Rattle.base_core.specs.Faults.{IsCounted};
+    ghost use Rattle.work_text.specs.Memory.{IsPlanned};
+    ghost use Rattle.work_text.specs.Outside.{IsFetched, IsRead};
+    ghost use Rattle.work_text.specs.Plans.{shelf_plan, shelf_documents, shelf_left};
 
-    ghost left = { λ shelf. Some (left_at shelf.documents.items shelf.number shelf.at) };
+    ghost documents = { λ shelf. Some (shelf_documents shelf) };
 
-    ghost fault_count = { λ shelf. shelf.plan.faults };
+    ghost left = { λ shelf. Some (shelf_left shelf) };
+
+    ghost fault_count = { λ shelf. (shelf_plan shelf).faults };
 
     fn faults(&self) -> u64 {
         self.plan.faults()
     }
 
-    fn fetch(&mut self, name: &Text) -> Result<bool, Failed> {
+    fn fetch(&mut self, name: &Text) -> Result<bool, Failed>
+        ensures planned { IsPlanned (shelf_plan self.old) (shelf_plan self.new) result }
+        ensures same { shelf_documents self.new ≡ shelf_documents self.old }
+        ensures counted { IsCounted (shelf_plan self.old).faults (shelf_plan self.new).faults result }
+        ensures kept { OnOk result ((shelf_plan self.new).faults ≡ (shelf_plan self.old).faults) }
+        ensures found { IfOk result (λ found. IsFetched (Some (shelf_documents self.old)) name.now found (Some (shelf_left self.new))) }
+    {
         self.plan.call()?;
         let Some(number) = number_of(self.documents.as_slice(), name) else {
             return Ok(false);
@@ -87,7 +100,15 @@ impl Shelf for MemoryShelf {
         Ok(true)
     }
 
-    fn read(&mut self, out: &mut [u8]) -> Result<usize, Failed> {
+    fn read(&mut self, out: &mut [u8]) -> Result<usize, Failed>
+        requires { 0 < length out.old }
+        ensures planned { IsPlanned (shelf_plan self.old) (shelf_plan self.new) result }
+        ensures same { shelf_documents self.new ≡ shelf_documents self.old }
+        ensures counted { IsCounted (shelf_plan self.old).faults (shelf_plan self.new).faults result }
+        ensures kept { OnOk result ((shelf_plan self.new).faults ≡ (shelf_plan self.old).faults) }
+        ensures within { IfOk result (λ n. n ≤ length out.new) }
+        ensures bytes { IfOk result (λ n. IsRead (Some (shelf_left self.old)) (Some (shelf_left self.new)) (take n out.new)) }
+    {
         self.plan.call()?;
         let count = copy_front(self.rest(), out);
         self.at += count;

@@ -3,10 +3,11 @@
 //! Each object counts its faults in a number that never falls. A call answers `Failed` only where that number rose
 //! in this call, so that code over these traits can't make a fault up. What an object holds is told or not: an
 //! object that doesn't tell, as one over real files, has `None` there, and the clauses then say nothing of it.
-ghost use Rattle.std.specs.Prelude.{◌≡◌, ℕ, ◌<◌, ◌≤◌, List, [], Option, length, take, IfOk, OnErr};
-ghost use Rattle.work_text.specs.Outside.{IsCounted, IsFetched, IsRead, IsTaken};
+ghost use Rattle.std.specs.Prelude.{◌≡◌, ℕ, ◌<◌, ◌≤◌, List, [], Option, length, take, IfOk, OnOk, OnErr};
+ghost use Rattle.base_core.specs.Faults.{IsCounted};
+ghost use Rattle.work_text.specs.Outside.{IsFetched, IsRead, IsTaken};
 
-use term_core::Text;
+use base_core::Text;
 
 /// A call of the outside failed, and the count of faults rose.
 #[derive(Clone, Copy, Debug, PartialEq, Eq)]
@@ -29,6 +30,7 @@ pub trait Shelf {
     fn fetch(&mut self, name: &Text) -> Result<bool, Failed>
         ensures same { documents self.new ≡ documents self.old }
         ensures counted { IsCounted (fault_count self.old) (fault_count self.new) result }
+        ensures kept { OnOk result (fault_count self.new ≡ fault_count self.old) }
         ensures found { IfOk result (λ found. IsFetched (documents self.old) name.now found (left self.new)) };
 
     /// Reads on into the front of `out`, and answers how many bytes; 0 is the end.
@@ -36,6 +38,7 @@ pub trait Shelf {
         requires { 0 < length out.old }
         ensures same { documents self.new ≡ documents self.old }
         ensures counted { IsCounted (fault_count self.old) (fault_count self.new) result }
+        ensures kept { OnOk result (fault_count self.new ≡ fault_count self.old) }
         ensures within { IfOk result (λ n. n ≤ length out.new) }
         ensures bytes { IfOk result (λ n. IsRead (left self.old) (left self.new) (take n out.new)) };
 }
@@ -54,6 +57,7 @@ pub trait Sink {
     fn write(&mut self, bytes: &[u8]) -> Result<usize, Failed>
         requires { 0 < length bytes.now }
         ensures counted { IsCounted (fault_count self.old) (fault_count self.new) result }
+        ensures kept { OnOk result (fault_count self.new ≡ fault_count self.old) }
         ensures some { IfOk result (λ n. (0 < n) × (n ≤ length bytes.now)) }
         ensures ok { IfOk result (λ n. IsTaken (taken self.old) (taken self.new) (take n bytes.now)) }
         ensures err { OnErr result (IsTaken (taken self.old) (taken self.new) []) };

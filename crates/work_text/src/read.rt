@@ -5,14 +5,14 @@
 ghost use Rattle.std.specs.Prelude.{◌≡◌, ◌≤◌, length, IfOk, IfErr, MatchResult};
 ghost use Rattle.work_text.specs.declared.work.Work.{Work as Parsed};
 ghost use Rattle.work_text.specs.declared.read.WorkFault.TheVariants.{NoMemory as MemoryFault};
-ghost use Rattle.work_text.specs.Faults.{HasCause, IsNoMemory};
+ghost use Rattle.work_text.specs.Faults.{IsWorkFault, IsNoMemory};
 ghost use Rattle.work_text.specs.Work.{IsWork, is_skipped};
-ghost use Rattle.work_text.specs.WorkReading.{GoesOn, CannotGoOn};
+ghost use Rattle.work_text.specs.WorkReading.{WorkGoesOn, CannotGoOn};
 
 use crate::read_line::{is_header, line_of};
 use crate::work::{Line, Work};
+use base_core::{LineEnd, List, Want, first_line};
 use std::alloc::{AllocError, AllocFailed, Global};
-use term_core::{LineEnd, List, Want, first_line};
 
 /// At most so many commands are in a work.
 const MOST_COMMANDS: usize = 4096;
@@ -55,7 +55,7 @@ pub fn read_work(alloc: Global, bytes: &[u8]) -> Result<Work, WorkFault>
     ensures found { IfOk result (IsWork bytes.now) }
     // A text is that of no other work.
     ensures only { (work : Parsed) → IsWork bytes.now work → MatchResult result (λ found. found ≡ work) IsNoMemory }
-    ensures fault { IfErr result (HasCause bytes.now) }
+    ensures fault { IfErr result (IsWorkFault bytes.now) }
 {
     let mut read = None;
     let mut number = 1u32;
@@ -78,7 +78,7 @@ fn with_line(
     line: &[u8],
     number: u32,
 ) -> Result<Option<List<Line>>, WorkFault>
-    ensures found { IfOk result (GoesOn read line.now) }
+    ensures found { IfOk result (WorkGoesOn read line.now) }
     ensures fault { IfErr result (CannotGoOn read line.now number) }
 {
     if is_skipped(line) {

@@ -2,12 +2,13 @@
 ghost use Rattle.std.specs.Prelude.{◌≡◌, ◌≢◌, ◌↔◌, ◌++◌, ℕ, List as Bytes, IfOk, IsTrue, MatchOption, codes};
 ghost use Rattle.std.specs.List.{list_all};
 ghost use Rattle.work_text.specs.Work.{IsName, is_name_byte};
+ghost use Rattle.work_text.specs.Verbs.{IsNamedLine};
 ghost use Rattle.work_text.specs.WorkReading.{IsReadingOf, IsNameOf};
 
 use crate::work::{Command, Line};
+use base_core::{List, Text, Want};
 use std::alloc::Global;
 use std::str;
-use term_core::{List, Text, Want};
 
 /// A document's name has at most so many bytes.
 const LONGEST_NAME: usize = 200;
@@ -24,22 +25,13 @@ pub fn line_of(alloc: Global, text: &[u8]) -> Result<Option<Line>, Want>
     ensures { IfOk result (IsReadingOf text.now) }
 {
     if let Some(bytes) = behind_load(text) {
-        let Some(name) = name_of(alloc, bytes)? else {
-            return Ok(None);
-        };
-        return Ok(Some(of_session_1(Command::Load(name))));
+        return named_line(alloc, DocumentVerb::Load, bytes);
     }
     if let Some(bytes) = behind_unload(text) {
-        let Some(name) = name_of(alloc, bytes)? else {
-            return Ok(None);
-        };
-        return Ok(Some(of_session_1(Command::Unload(name))));
+        return named_line(alloc, DocumentVerb::Unload, bytes);
     }
     if let Some(bytes) = behind_queryfile(text) {
-        let Some(name) = name_of(alloc, bytes)? else {
-            return Ok(None);
-        };
-        return Ok(Some(of_session_1(Command::QueryFile(name))));
+        return named_line(alloc, DocumentVerb::QueryFile, bytes);
     }
     let Some(query) = behind_query(text) else {
         return Ok(None);
@@ -49,6 +41,39 @@ pub fn line_of(alloc: Global, text: &[u8]) -> Result<Option<Line>, Want>
     }
     let query = List::of(Vec::from_slice(alloc, query)?);
     Ok(Some(of_session_1(Command::Query(query))))
+}
+
+/// What is done with a document.
+#[derive(Clone, Copy)]
+enum DocumentVerb {
+    Load,
+    Unload,
+    QueryFile,
+}
+
+impl DocumentVerb {
+    ghost use Rattle.work_text.specs.Verbs.{command_with};
+
+    /// The command on the document of this name.
+    fn command(self, name: Text) -> Command
+        ensures { result ≡ command_with self name }
+    {
+        match self {
+            DocumentVerb::Load => Command::Load(name),
+            DocumentVerb::Unload => Command::Unload(name),
+            DocumentVerb::QueryFile => Command::QueryFile(name),
+        }
+    }
+}
+
+/// The line with this verb, where the bytes behind it are a document's name.
+fn named_line(alloc: Global, verb: DocumentVerb, bytes: &[u8]) -> Result<Option<Line>, Want>
+    ensures { IfOk result (IsNamedLine verb bytes.now) }
+{
+    let Some(name) = name_of(alloc, bytes)? else {
+        return Ok(None);
+    };
+    Ok(Some(of_session_1(verb.command(name))))
 }
 
 fn of_session_1(command: Command) -> Line

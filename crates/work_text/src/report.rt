@@ -1,8 +1,7 @@
 //! Reports: what became of each command, and which changes were committed.
-use bgp_model::Solution;
+use base_core::{List, Text};
+use bgp_model::{Table, Word};
 use change_model::Origin;
-use query_text::Word;
-use term_core::{List, Text};
 
 /// What became of a command. All but the first two are refusals, and a refused command changes nothing.
 #[derive(Debug, Drop)]
@@ -15,7 +14,7 @@ pub enum Outcome {
     Answered {
         time: u64,
         columns: List<Text>,
-        rows: List<Solution>,
+        rows: Table,
     },
     NoDocument,
     DocumentTooLarge,

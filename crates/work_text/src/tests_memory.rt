@@ -1,8 +1,8 @@
 use super::*;
+use base_core::{List, Text};
 use std::alloc::Global;
 use std::process::Abort;
 use std::test::Fail;
-use term_core::{List, Text};
 
 fn shelf(rt: &(impl Abort + AllocGlobal), fails: Vec<u64>) -> Result<MemoryShelf, Fail> {
     let alloc = rt.alloc();

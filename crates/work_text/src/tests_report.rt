@@ -1,11 +1,11 @@
 use super::*;
-use bgp_model::Solution;
+use base_core::{List, Text, Want};
+use bgp_model::{Table, Word};
 use change_model::Origin;
-use query_text::Word;
 use std::alloc::Global;
 use std::process::Abort;
 use std::test::Fail;
-use term_core::{List, Term, Text, Want};
+use term_core::Term;
 
 /// A line of a session for each, with the verb that is said.
 fn lines(alloc: Global, told: &[(u32, &str)]) -> Result<Work, Want> {
@@ -46,12 +46,7 @@ fn origins(alloc: Global, told: &[(u32, u32)]) -> Result<List<Origin>, Want> {
     Ok(List::of(origins))
 }
 
-fn answered(
-    alloc: Global,
-    time: u64,
-    names: &[&str],
-    rows: Vec<Solution>,
-) -> Result<Outcome, Want> {
+fn answered(alloc: Global, time: u64, names: &[&str], rows: Table) -> Result<Outcome, Want> {
     let mut columns = Vec::new(alloc);
     for name in names {
         columns.push(Text::of(alloc, name)?)?;
@@ -59,18 +54,26 @@ fn answered(
     Ok(Outcome::Answered {
         time,
         columns: List::of(columns),
-        rows: List::of(rows),
+        rows,
     })
 }
 
-fn row(alloc: Global, iris: &[&str]) -> Result<Solution, Want> {
-    let mut cells = Vec::new(alloc);
+/// Rows of so many columns, by the places of their cells among the IRIs.
+fn table(
+    alloc: Global,
+    iris: &[&str],
+    columns: usize,
+    rows: &[&[Option<u32>]],
+) -> Result<Table, Want> {
+    let mut terms = Vec::new(alloc);
     for iri in iris {
-        cells.push(Some(Term::Iri(Text::of(alloc, iri)?)))?;
+        terms.push(Term::Iri(Text::of(alloc, iri)?))?;
     }
-    Ok(Solution {
-        cells: List::of(cells),
-    })
+    let mut places = Vec::new(alloc);
+    for row in rows {
+        places.extend_from_slice(row)?;
+    }
+    Table::of(alloc, terms, columns, rows.len(), places)
 }
 
 fn expect(
@@ -104,7 +107,7 @@ fn nothing_was_done(rt: HostRuntime) -> Result<(), Fail> {
 }
 
 fn first_outcomes(alloc: Global) -> Result<List<Outcome>, Want> {
-    let empty = answered(alloc, 10, &["s", "long_name"], Vec::new(alloc))?;
+    let empty = answered(alloc, 10, &["s", "long_name"], table(alloc, &[], 2, &[])?)?;
     let outcomes = vec![in alloc;
         Outcome::Changed { time: 10 },
         empty,
@@ -190,19 +193,25 @@ fn refused_queries_are_printed_with_their_places(rt: HostRuntime) -> Result<(), 
     Ok(())
 }
 
+/// A place without a term is printed as an unbound variable.
 #[test]
 fn rows_are_printed(rt: HostRuntime) -> Result<(), Fail> {
     let alloc = rt.alloc();
-    let row = row(alloc, &["http://e/a", "http://e/p", "http://e/b"])?;
-    let answered = answered(alloc, 1, &["s", "p", "o"], vec![in alloc; row]?)?;
+    let rows = table(
+        alloc,
+        &["http://e/b", "http://e/a"],
+        3,
+        &[&[Some(1), None, Some(0)], &[Some(0), Some(2), None]],
+    )?;
+    let answered = answered(alloc, 1, &["s", "p", "o"], rows)?;
     let outcomes = vec![in alloc; Outcome::Changed { time: 1 }, answered]?;
     let report = RunReport {
         opened: 0,
         outcomes: List::of(vec![in alloc; List::of(outcomes)]?),
         origins: origins(alloc, &[(1, 1)])?,
     };
-    let text = "opened 0\nsession 1\n1 load time 1\n2 query time 1 rows 1\n?s\t?p\t?o\n\
-        <http://e/a>\t<http://e/p>\t<http://e/b>\nhistory 1\n1 1 1\n";
+    let text = "opened 0\nsession 1\n1 load time 1\n2 query time 1 rows 2\n?s\t?p\t?o\n\
+        <http://e/a>\t\t<http://e/b>\n<http://e/b>\t\t\nhistory 1\n1 1 1\n";
     expect(
         &rt,
         &report,

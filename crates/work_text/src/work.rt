@@ -1,5 +1,5 @@
 //! Works: what sessions are told to do.
-use term_core::{List, Text};
+use base_core::{List, Text};
 
 #[derive(Debug, Drop)]
 pub enum Command {

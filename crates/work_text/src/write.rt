@@ -1,17 +1,17 @@
 //! Writing reports: a function for each part of the text, from the whole down to a line.
 //!
-//! Each appends its text. After a want of memory a private one may have left a part of it; `write_report` leaves none.
-ghost use Rattle.std.specs.Prelude.{◌≡◌, ◌+◌, ◌-◌, ◌<◌, ◌^◌, ◌∷◌, ◌++◌, length, OnOk, OnErr};
-ghost use Rattle.std.specs.List.{flat_map};
-ghost use Rattle.work_text.specs.Report.{report_text, sessions_text, session_text, commands_of, commands_text, command_text, verb, outcome_text, answer_text, header, row_text, history_text, commits_text, commit_text};
+//! Each writes its text at the end of a draft. After a want of memory a private one may have left a part of it there;
+//! `write_report` cuts it off again.
+ghost use Rattle.std.specs.Prelude.{◌≡◌, ◌+◌, ◌<◌, ◌^◌, ◌∷◌, ◌++◌, length, OnOk, OnErr};
+ghost use Rattle.work_text.specs.Report.{report_text, sessions_text, session_text, commands_of, commands_text, command_text, verb, outcome_text, answer_text, header, history_text, commits_text, commit_text};
 
 use crate::report::{Outcome, RunReport};
 use crate::work::{Command, Line, Work};
-use bgp_model::{Solution, row_line};
+use base_core::{List, Text, Want};
+use bgp_model::{Draft, Table, Word};
 use change_model::Origin;
-use query_text::Word;
 use std::alloc::Global;
-use term_core::{List, Text, Want};
+use std::mem;
 
 /// Appends the printed text of a report on a work.
 pub fn write_report(
@@ -20,41 +20,57 @@ pub fn write_report(
     work: &Work,
     out: &mut Vec<u8>,
 ) -> Result<(), Want>
-    requires { report.now.opened + length report.now.origins < 2 ^ 64 - 1 }
+    requires { report.now.opened + length report.now.origins < 2 ^ 64 }
     ensures ok { OnOk result (out.new.items ≡ out.old.items ++ report_text report.now work.now) }
     ensures err { OnErr result (out.new.items ≡ out.old.items) }
 {
-    let mut text = Vec::new(alloc);
-    let opened = report.opened;
-    append(format!(in alloc; "opened {opened}\n")?.as_str(), &mut text)?;
-    write_sessions(
-        alloc,
-        work.lines.items(),
-        report.outcomes.items(),
-        &mut text,
-    )?;
-    write_history(alloc, opened, report.origins.items(), &mut text)?;
-    out.extend_from_slice(text.as_slice())?;
-    Ok(())
+    let mut draft = Draft::behind(mem::replace(out, Vec::new(alloc)));
+    match write_parts(alloc, report, work, &mut draft) {
+        Ok(()) => {
+            *out = draft.whole();
+            Ok(())
+        }
+        Err(want) => {
+            *out = draft.cut_back();
+            Err(want)
+        }
+    }
 }
 
-fn append(text: &str, out: &mut Vec<u8>) -> Result<(), Want>
-    ensures { OnOk result (out.new.items ≡ out.old.items ++ text.now) }
+fn write_parts(
+    alloc: Global,
+    report: &RunReport,
+    work: &Work,
+    draft: &mut Draft,
+) -> Result<(), Want>
+    requires { report.now.opened + length report.now.origins < 2 ^ 64 }
+    ensures text { OnOk result (draft.new.text ≡ draft.old.text ++ report_text report.now work.now) }
+    ensures kept { draft.new.kept ≡ draft.old.kept }
 {
-    out.extend_from_slice(text.as_bytes())?;
-    Ok(())
+    let opened = report.opened;
+    append(format!(in alloc; "opened {opened}\n")?.as_str(), draft)?;
+    write_sessions(alloc, work.lines.items(), report.outcomes.items(), draft)?;
+    write_history(alloc, opened, report.origins.items(), draft)
+}
+
+fn append(text: &str, draft: &mut Draft) -> Result<(), Want>
+    ensures text { OnOk result (draft.new.text ≡ draft.old.text ++ text.now) }
+    ensures kept { draft.new.kept ≡ draft.old.kept }
+{
+    draft.append(text.as_bytes())
 }
 
 fn write_sessions(
     alloc: Global,
     lines: &[Line],
     sessions: &[List<Outcome>],
-    out: &mut Vec<u8>,
+    draft: &mut Draft,
 ) -> Result<(), Want>
-    ensures { OnOk result (out.new.items ≡ out.old.items ++ sessions_text 1 lines.now sessions.now) }
+    ensures text { OnOk result (draft.new.text ≡ draft.old.text ++ sessions_text 1 lines.now sessions.now) }
+    ensures kept { draft.new.kept ≡ draft.old.kept }
 {
     for (before, outcomes) in sessions.iter().enumerate() {
-        write_session(alloc, before as u64 + 1, lines, outcomes.items(), out)?;
+        write_session(alloc, before as u64 + 1, lines, outcomes.items(), draft)?;
     }
     Ok(())
 }
@@ -65,16 +81,16 @@ fn write_session(
     session: u64,
     lines: &[Line],
     outcomes: &[Outcome],
-    out: &mut Vec<u8>,
+    draft: &mut Draft,
 ) -> Result<(), Want>
-    ensures { OnOk result (out.new.items ≡
-        out.old.items ++ session_text session (commands_of session lines.now) outcomes.now) }
+    ensures text { OnOk result (draft.new.text ≡ draft.old.text ++ session_text session (commands_of session lines.now) outcomes.now) }
+    ensures kept { draft.new.kept ≡ draft.old.kept }
 {
     if outcomes.is_empty() {
         return Ok(());
     }
-    append(format!(in alloc; "session {session}\n")?.as_str(), out)?;
-    write_commands(alloc, session, lines, outcomes, out)
+    append(format!(in alloc; "session {session}\n")?.as_str(), draft)?;
+    write_commands(alloc, session, lines, outcomes, draft)
 }
 
 /// The commands of a session, each with its outcome.
@@ -83,10 +99,10 @@ fn write_commands(
     session: u64,
     lines: &[Line],
     outcomes: &[Outcome],
-    out: &mut Vec<u8>,
+    draft: &mut Draft,
 ) -> Result<(), Want>
-    ensures { OnOk result (out.new.items ≡
-        out.old.items ++ commands_text 1 (commands_of session lines.now) outcomes.now) }
+    ensures text { OnOk result (draft.new.text ≡ draft.old.text ++ commands_text 1 (commands_of session lines.now) outcomes.now) }
+    ensures kept { draft.new.kept ≡ draft.old.kept }
 {
     let mut before = 0;
     for line in lines {
@@ -97,7 +113,7 @@ fn write_commands(
             return Ok(());
         };
         before += 1;
-        write_command(alloc, before as u64, &line.command, outcome, out)?;
+        write_command(alloc, before as u64, &line.command, outcome, draft)?;
     }
     Ok(())
 }
@@ -107,13 +123,14 @@ fn write_command(
     place: u64,
     command: &Command,
     outcome: &Outcome,
-    out: &mut Vec<u8>,
+    draft: &mut Draft,
 ) -> Result<(), Want>
-    ensures { OnOk result (out.new.items ≡ out.old.items ++ command_text place command.now outcome.now) }
+    ensures text { OnOk result (draft.new.text ≡ draft.old.text ++ command_text place command.now outcome.now) }
+    ensures kept { draft.new.kept ≡ draft.old.kept }
 {
     let verb = verb_of(command);
-    append(format!(in alloc; "{place} {verb} ")?.as_str(), out)?;
-    write_outcome(alloc, outcome, out)
+    append(format!(in alloc; "{place} {verb} ")?.as_str(), draft)?;
+    write_outcome(alloc, outcome, draft)
 }
 
 fn verb_of(command: &Command) -> &'static str
@@ -126,54 +143,56 @@ fn verb_of(command: &Command) -> &'static str
     }
 }
 
-fn write_outcome(alloc: Global, outcome: &Outcome, out: &mut Vec<u8>) -> Result<(), Want>
-    ensures { OnOk result (out.new.items ≡ out.old.items ++ outcome_text outcome.now) }
+fn write_outcome(alloc: Global, outcome: &Outcome, draft: &mut Draft) -> Result<(), Want>
+    ensures text { OnOk result (draft.new.text ≡ draft.old.text ++ outcome_text outcome.now) }
+    ensures kept { draft.new.kept ≡ draft.old.kept }
 {
     match outcome {
-        Outcome::Changed { time } => append(format!(in alloc; "time {time}\n")?.as_str(), out),
+        Outcome::Changed { time } => append(format!(in alloc; "time {time}\n")?.as_str(), draft),
         Outcome::Answered {
             time,
             columns,
             rows,
-        } => write_answer(alloc, *time, columns.items(), rows.items(), out),
-        Outcome::NoDocument => append("refused no document\n", out),
-        Outcome::DocumentTooLarge => append("refused document too large\n", out),
+        } => write_answer(alloc, *time, columns.items(), rows, draft),
+        Outcome::NoDocument => append("refused no document\n", draft),
+        Outcome::DocumentTooLarge => append("refused document too large\n", draft),
         Outcome::BadLine { line } => append(
             format!(in alloc; "refused line {line}\n")?.as_str(),
-            out,
+            draft,
         ),
         Outcome::TermTooLong { line } => append(
             format!(in alloc; "refused term too long line {line}\n")?.as_str(),
-            out,
+            draft,
         ),
         Outcome::TooManyStatements { line } => append(
             format!(in alloc; "refused too many statements line {line}\n")?.as_str(),
-            out,
+            draft,
         ),
         Outcome::LabelInRemoval { line } => append(
             format!(in alloc; "refused label in removal line {line}\n")?.as_str(),
-            out,
+            draft,
         ),
         Outcome::QueryAt { place } => append(
             format!(in alloc; "refused query at {place}\n")?.as_str(),
-            out,
+            draft,
         ),
-        Outcome::QueryLeftOut { place, word } => write_left_out(alloc, *place, *word, out),
-        Outcome::TooManyPatterns => append("refused too many patterns\n", out),
+        Outcome::QueryLeftOut { place, word } => write_left_out(alloc, *place, *word, draft),
+        Outcome::TooManyPatterns => append("refused too many patterns\n", draft),
         Outcome::TooManyRows { time } => append(
             format!(in alloc; "refused too many rows time {time}\n")?.as_str(),
-            out,
+            draft,
         ),
     }
 }
 
-fn write_left_out(alloc: Global, place: u32, word: Word, out: &mut Vec<u8>) -> Result<(), Want>
-    ensures { OnOk result (out.new.items ≡ out.old.items ++ outcome_text (Outcome.QueryLeftOut place word)) }
+fn write_left_out(alloc: Global, place: u32, word: Word, draft: &mut Draft) -> Result<(), Want>
+    ensures text { OnOk result (draft.new.text ≡ draft.old.text ++ outcome_text (Outcome.QueryLeftOut place word)) }
+    ensures kept { draft.new.kept ≡ draft.old.kept }
 {
     let word = word.text();
     append(
         format!(in alloc; "refused query left out {word} at {place}\n")?.as_str(),
-        out,
+        draft,
     )
 }
 
@@ -181,65 +200,59 @@ fn write_answer(
     alloc: Global,
     time: u64,
     columns: &[Text],
-    rows: &[Solution],
-    out: &mut Vec<u8>,
+    rows: &Table,
+    draft: &mut Draft,
 ) -> Result<(), Want>
-    ensures { OnOk result (out.new.items ≡ out.old.items ++ answer_text time columns.now rows.now) }
+    ensures text { OnOk result (draft.new.text ≡ draft.old.text ++ answer_text time columns.now rows.now) }
+    ensures kept { draft.new.kept ≡ draft.old.kept }
 {
-    let count = rows.len();
+    let count = rows.count();
     append(
         format!(in alloc; "time {time} rows {count}\n")?.as_str(),
-        out,
+        draft,
     )?;
-    write_header(columns, out)?;
-    out.push(b'\n')?;
-    write_rows(alloc, rows, out)
+    write_header(columns, draft)?;
+    draft.push(b'\n')?;
+    rows.write_lines(alloc, draft)
 }
 
 /// The names of the columns, without an end of line.
-fn write_header(columns: &[Text], out: &mut Vec<u8>) -> Result<(), Want>
-    ensures { OnOk result (out.new.items ≡ out.old.items ++ header columns.now) }
+fn write_header(columns: &[Text], draft: &mut Draft) -> Result<(), Want>
+    ensures text { OnOk result (draft.new.text ≡ draft.old.text ++ header columns.now) }
+    ensures kept { draft.new.kept ≡ draft.old.kept }
 {
     let Some((first, others)) = columns.split_first() else {
         return Ok(());
     };
-    write_name(first, out)?;
+    write_name(first, draft)?;
     for name in others {
-        out.push(b'\t')?;
-        write_name(name, out)?;
+        draft.push(b'\t')?;
+        write_name(name, draft)?;
     }
     Ok(())
 }
 
-fn write_name(name: &Text, out: &mut Vec<u8>) -> Result<(), Want>
-    ensures { OnOk result (out.new.items ≡ out.old.items ++ 63 ∷ name.now) }
+fn write_name(name: &Text, draft: &mut Draft) -> Result<(), Want>
+    ensures text { OnOk result (draft.new.text ≡ draft.old.text ++ 63 ∷ name.now) }
+    ensures kept { draft.new.kept ≡ draft.old.kept }
 {
-    out.push(b'?')?;
-    append(name.text(), out)
-}
-
-fn write_rows(alloc: Global, rows: &[Solution], out: &mut Vec<u8>) -> Result<(), Want>
-    ensures { OnOk result (out.new.items ≡ out.old.items ++ flat_map row_text rows.now) }
-{
-    for row in rows {
-        row_line(alloc, row, out)?;
-        out.push(b'\n')?;
-    }
-    Ok(())
+    draft.push(b'?')?;
+    append(name.text(), draft)
 }
 
 fn write_history(
     alloc: Global,
     opened: u64,
     origins: &[Origin],
-    out: &mut Vec<u8>,
+    draft: &mut Draft,
 ) -> Result<(), Want>
-    requires { opened + length origins.now < 2 ^ 64 - 1 }
-    ensures { OnOk result (out.new.items ≡ out.old.items ++ history_text opened origins.now) }
+    requires { opened + length origins.now < 2 ^ 64 }
+    ensures text { OnOk result (draft.new.text ≡ draft.old.text ++ history_text opened origins.now) }
+    ensures kept { draft.new.kept ≡ draft.old.kept }
 {
     let count = origins.len();
-    append(format!(in alloc; "history {count}\n")?.as_str(), out)?;
-    write_commits(alloc, opened, origins, out)
+    append(format!(in alloc; "history {count}\n")?.as_str(), draft)?;
+    write_commits(alloc, opened, origins, draft)
 }
 
 /// The commits of a run over a history of so many changes.
@@ -247,24 +260,26 @@ fn write_commits(
     alloc: Global,
     opened: u64,
     origins: &[Origin],
-    out: &mut Vec<u8>,
+    draft: &mut Draft,
 ) -> Result<(), Want>
-    requires { opened + length origins.now < 2 ^ 64 - 1 }
-    ensures { OnOk result (out.new.items ≡ out.old.items ++ commits_text (opened + 1) origins.now) }
+    requires { opened + length origins.now < 2 ^ 64 }
+    ensures text { OnOk result (draft.new.text ≡ draft.old.text ++ commits_text (opened + 1) origins.now) }
+    ensures kept { draft.new.kept ≡ draft.old.kept }
 {
     for (before, origin) in origins.iter().enumerate() {
-        write_commit(alloc, opened + before as u64 + 1, origin, out)?;
+        write_commit(alloc, opened + before as u64 + 1, origin, draft)?;
     }
     Ok(())
 }
 
-fn write_commit(alloc: Global, time: u64, origin: &Origin, out: &mut Vec<u8>) -> Result<(), Want>
-    ensures { OnOk result (out.new.items ≡ out.old.items ++ commit_text time origin.now) }
+fn write_commit(alloc: Global, time: u64, origin: &Origin, draft: &mut Draft) -> Result<(), Want>
+    ensures text { OnOk result (draft.new.text ≡ draft.old.text ++ commit_text time origin.now) }
+    ensures kept { draft.new.kept ≡ draft.old.kept }
 {
     let session = origin.session;
     let command = origin.command;
     append(
         format!(in alloc; "{time} {session} {command}\n")?.as_str(),
-        out,
+        draft,
     )
 }

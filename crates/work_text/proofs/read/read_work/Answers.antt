@@ -1,6 +1,6 @@
 use Rattle.std.proofs.Common.{Ok, Err, refl, arith}
 use Rattle.std.proofs.lemmas.Result.{err_from_is_err_and}
-use Rattle.work_text.proofs.WorkScan.{IsScanned-more, HasCause-stop, IsWork-from, only_work}
+use Rattle.work_text.proofs.WorkScan.{IsScanned-more, IsWorkFault-stop, IsWork-from, only_work}
 use Rattle.work_text.proofs.read.read_work.Goals as goal
 
 pub lines-preserved : goal.lines-preserved
@@ -16,7 +16,7 @@ returns-in_err-read-clause-only c =
     let fault = c.in_err-read.field-0.0 in
     rw (p.1, p.2)
     (only_work c.args.bytes.now (Err fault) tt
-    (HasCause-stop c.args.bytes.now c.lines.rest.now c.in-Some.behind.now c.in-Some.line.now c.lines.number c.lines.read fault
+    (IsWorkFault-stop c.args.bytes.now c.lines.rest.now c.in-Some.behind.now c.in-Some.line.now c.lines.number c.lines.read fault
     c.in-Some.ensures.cut c.in_err-read.ensures.fault c.lines.invariant.0))
 
 pub returns-in-Some-read-clause-only : goal.returns-in-Some-read-clause-only

@@ -1,42 +1,24 @@
 use Rattle.std.proofs.Common.{◌∙◌}
-use Rattle.work_text.proofs.WorkLines.{load_line, unload_line, query_line, query_file_line, no_load, no_unload, no_query, no_query_file, no_command, no_name, is_empty, not_empty}
+use Rattle.work_text.proofs.WorkLines.{load_line, unload_line, query_line, query_file_line, no_query, no_command, is_empty, not_empty}
 use Rattle.work_text.proofs.read_line.line_of.Goals as goal
 
-pub returns-in_default-2 : goal.returns-in_default-2
-returns-in_default-2 c =
-    no_load c.args.text.now c.in-Some.bytes.now c.in-Some.ensures (no_name _ _ c.in_ok-name.ensures c.in_default-2.not-Some)
-
 pub returns-in-Some : goal.returns-in-Some
-returns-in-Some c =
-    load_line c.args.text.now c.in-Some.bytes.now c.in-Some-2.name c.in_ok-name.field-0 c.of_session_1.result
-    c.in-Some.ensures c.in_ok-name.ensures c.in-Some-2.is c.of_session_1.ensures
-
-pub returns-in_default-3 : goal.returns-in_default-3
-returns-in_default-3 c =
-    no_unload c.args.text.now c.in-Some-behind_unload.bytes.now c.in-Some-behind_unload.ensures
-    (no_name _ _ c.in_ok-name-2.ensures c.in_default-3.not-Some)
+returns-in-Some c = load_line c.args.text.now c.in-Some.bytes.now c.named_line.result c.in-Some.ensures c.named_line.ensures
 
 pub returns-in-Some-behind_unload : goal.returns-in-Some-behind_unload
 returns-in-Some-behind_unload c =
-    unload_line c.args.text.now c.in-Some-behind_unload.bytes.now c.in-Some-3.name c.in_ok-name-2.field-0
-    c.of_session_1-in-Some-behind_unload.result c.in-Some-behind_unload.ensures c.in_ok-name-2.ensures c.in-Some-3.is
-    c.of_session_1-in-Some-behind_unload.ensures
+    unload_line c.args.text.now c.in-Some-behind_unload.bytes.now c.named_line-in-Some-behind_unload.result c.in-Some-behind_unload.ensures
+    c.named_line-in-Some-behind_unload.ensures
+
+pub returns-in-Some-behind_queryfile : goal.returns-in-Some-behind_queryfile
+returns-in-Some-behind_queryfile c =
+    query_file_line c.args.text.now c.in-Some-behind_queryfile.bytes.now c.named_line-in-Some-behind_queryfile.result c.in-Some-behind_queryfile.ensures
+    c.named_line-in-Some-behind_queryfile.ensures
 
 pub returns-in_default-behind_query : goal.returns-in_default-behind_query
 returns-in_default-behind_query c =
     no_command c.args.text.now c.in_default.ensures c.in_default-behind_unload.ensures c.in_default-behind_queryfile.ensures
     c.in_default-behind_query.ensures
-
-pub returns-in_default-4 : goal.returns-in_default-4
-returns-in_default-4 c =
-    no_query_file c.args.text.now c.in-Some-behind_queryfile.bytes.now c.in-Some-behind_queryfile.ensures
-    (no_name _ _ c.in_ok-name-3.ensures c.in_default-4.not-Some)
-
-pub returns-in-Some-behind_queryfile : goal.returns-in-Some-behind_queryfile
-returns-in-Some-behind_queryfile c =
-    query_file_line c.args.text.now c.in-Some-behind_queryfile.bytes.now c.in-Some-4.name c.in_ok-name-3.field-0
-    c.of_session_1-in-Some-behind_queryfile.result c.in-Some-behind_queryfile.ensures c.in_ok-name-3.ensures c.in-Some-4.is
-    c.of_session_1-in-Some-behind_queryfile.ensures
 
 pub returns-then-is_empty : goal.returns-then-is_empty
 returns-then-is_empty c =
@@ -45,6 +27,6 @@ returns-then-is_empty c =
 
 pub returns : goal.returns
 returns c =
-    query_line c.args.text.now c.in-Some-behind_query.query.now c.of-query.result c.of_session_1-2.result c.in-Some-behind_query.ensures
+    query_line c.args.text.now c.in-Some-behind_query.query.now c.of-query.result c.of_session_1.result c.in-Some-behind_query.ensures
     (not_empty c.in-Some-behind_query.query.now c.is_empty.result c.if-is_empty.false c.is_empty.ensures)
-    (c.of-query.ensures ∙ (c.in_ok-from_slice.ensures).items) c.of_session_1-2.ensures
+    (c.of-query.ensures ∙ (c.in_ok-from_slice.ensures).items) c.of_session_1.ensures

@@ -13,7 +13,7 @@ printed : (session : ℕ) (commands : List Command) (outcomes : List Outcome) (e
 printed session commands [] empty was is = cc
 printed session commands (outcome ∷ outcomes) empty was is = refl
 
-pub returns : goal.returns
-returns c =
+pub returns-clause-text : goal.returns-clause-text
+returns-clause-text c =
     let is_printed = printed c.args.session (commands_of c.args.session c.args.lines.now) c.args.outcomes.now c.is_empty.result c.if-is_empty.false c.is_empty.ensures in
     rw is_printed (grind (arith, common_steps))
