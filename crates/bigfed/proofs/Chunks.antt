@@ -3,7 +3,7 @@ use Rattle.std.proofs.Common.{◌≡◌, ℕ, suc, ◌<◌, ◌≤◌, Bool, tru
 use Rattle.std.specs.List.{dedup_from}
 use Rattle.std.specs.Ordering.{is_le}
 use Rattle.std.specs.Cmp.Lexicographic.{slice_cmp, bytes_decides}
-use Rattle.term_core.specs.Lists.{Has}
+use Rattle.base_core.specs.Lists.{Has}
 use Rattle.fed_bytes.specs.declared.span.Span.{Span}
 use Rattle.fed_bytes.specs.Keys.{IsBefore, IsUpTo, IsBeforeEnd}
 use Rattle.fed_bytes.proofs.Orders.{up_to-itself, up_to-chain, before_up_to, up_to_end, turned}
@@ -15,11 +15,10 @@ use Rattle.window_core.specs.declared.rows.Chunk.{Chunk}
 use Rattle.window_core.specs.Rows.{ComesBefore, StandInOrder, AreFrom, HaveKeys, BeginWith, EndsAt, IsChunk}
 use Rattle.window_core.specs.Windows.{IsOnward}
 use Rattle.window_core.proofs.Lists.{of_each, in_front, in_one}
-use Rattle.window_core.proofs.Order.{up_to_later, before_is_up_to, not_before_itself}
-use Rattle.window_core.proofs.Found.{front_in_order, front_before}
+use Rattle.window_core.proofs.Order.{up_to_later, before_is_up_to, not_before_itself, front_in_order, front_before}
 use Rattle.pattern_core.proofs.Members.{AllPairs}
 use Rattle.bigfed.specs.Indexed.{HasValue, IsShownIn}
-use Rattle.bigfed.specs.Shown.{GoesOn, same_key, firsts}
+use Rattle.bigfed.specs.Shown.{SpanGoesOn, same_key, firsts}
 
 -- ---- the order of keys
 
@@ -294,7 +293,7 @@ not_in_chunk rows order span key0 most chunk found so_far is ids has shown =
 
 -- a next key that isn't in the span ends it
 goes_on : (rows : List Row) (order : Order) (span : Span) (key0 : List ℕ) (next goes : Option (List ℕ)) (found : List Ids)
-    → IsUpTo span.left key0 → IsOnward key0 next → GoesOn span next goes → AreShown rows order span next found
+    → IsUpTo span.left key0 → IsOnward key0 next → SpanGoesOn span next goes → AreShown rows order span next found
     → AreShown rows order span goes found × IsFromLeft span goes
 goes_on rows order span key0 None goes found left onward is are = (subst (λ g. AreShown rows order span g found) (sym is) are, subst (IsFromLeft span) (sym is) tt)
 goes_on rows order span key0 (Some next) goes found left onward (inl is) are =
@@ -314,7 +313,7 @@ goes_on rows order span key0 (Some next) goes found left onward (inr is) are =
 pub one_more_chunk : (rows : List Row) (order : Order) (span : Span) (key0 : List ℕ) (most : ℕ) (chunk : Chunk) (found more : List Ids) (goes : Option (List ℕ))
     → AreShown rows order span (Some key0) found → IsUpTo span.left key0 → IsChunk rows key0 most chunk → IsOnward key0 chunk.next
     → ((ids : Ids) → Has more ids ↔ (Has found ids ⊎ IsShownIn chunk.rows order span ids))
-    → GoesOn span chunk.next goes
+    → SpanGoesOn span chunk.next goes
     → AreShown rows order span goes more × IsFromLeft span goes
 one_more_chunk rows order span key0 most chunk found more goes so_far left is onward kept on =
     goes_on rows order span key0 chunk.next goes more left onward on (chunk_shown rows order span key0 most chunk found more so_far is onward kept)
@@ -376,7 +375,7 @@ fewer_rows rows key0 most count found rest from next ends keys some onward =
     stands.0 stands.1 (before_not one.key next (early rows key0 most count found rest from (Some next) ends one there)) in
     omega arith
 
-fewer_by : (rows : List Row) (span : Span) (key0 : List ℕ) (next goes : Option (List ℕ)) → GoesOn span next goes
+fewer_by : (rows : List Row) (span : Span) (key0 : List ℕ) (next goes : Option (List ℕ)) → SpanGoesOn span next goes
     → ((key : List ℕ) → next ≡ Some key → left_from rows (Some key) < left_from rows (Some key0)) → left_from rows goes < left_from rows (Some key0)
 fewer_by rows span key0 None goes on fewer = subst (λ g. left_from rows g < left_from rows (Some key0)) (sym on) (omega arith)
 fewer_by rows span key0 (Some next) goes (inl is) fewer = subst (λ g. left_from rows g < left_from rows (Some key0)) (sym is.1) (fewer next refl)
@@ -384,7 +383,7 @@ fewer_by rows span key0 (Some next) goes (inr is) fewer = subst (λ g. left_from
 
 -- one more chunk leaves fewer rows
 pub fewer_left : (rows : List Row) (span : Span) (key0 : List ℕ) (most : ℕ) (chunk : Chunk) (goes : Option (List ℕ)) → IsChunk rows key0 most chunk
-    → 1 ≤ most → IsOnward key0 chunk.next → GoesOn span chunk.next goes → left_from rows goes < left_from rows (Some key0)
+    → 1 ≤ most → IsOnward key0 chunk.next → SpanGoesOn span chunk.next goes → left_from rows goes < left_from rows (Some key0)
 fewer_left rows span key0 most chunk goes is some onward on =
     fewer_by rows span key0 chunk.next goes on (λ next e.
     fewer_rows rows key0 most is.count chunk.rows is.rest is.from next (subst (λ n. EndsAt n most is.count chunk.rows is.rest) e is.ends) is.keys some

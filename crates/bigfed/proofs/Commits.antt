@@ -12,7 +12,7 @@ use Rattle.change_model.specs.Lexicon.{lexicon_at}
 use Rattle.change_model.specs.Entries.{IsLastEntry, IsResolved}
 use Rattle.change_model.specs.Laws.{IsWritable}
 use Rattle.bigfed.specs.declared.store.Store.{Store}
-use Rattle.bigfed.specs.Standing.{StandsFor}
+use Rattle.bigfed.specs.Standing.{StoreStandsFor}
 use Rattle.bigfed.proofs.Growth.{writable_grows}
 use Rattle.bigfed.proofs.Steps.{length-origins}
 
@@ -22,7 +22,7 @@ pub record IsTold (history : History) (committed : Committed) (entry : Entry) : 
   pub last : IsLastEntry (history ++ committed ∷ []) entry
 
 pub entry_told : (history : History) (store : Store) (change : Change) (origin : Origin) (resolved : Resolved) (entry : Entry) (terms time : ℕ)
-    → StandsFor store history → AllByRecursion IsStatement change.statements → IsResolved history resolved → resolved.change ≡ change
+    → StoreStandsFor store history → AllByRecursion IsStatement change.statements → IsResolved history resolved → resolved.change ≡ change
     → length store.origins + 1 < 2 ^ 64 → store.indexes.terms + 3 * length change.statements < 2 ^ 64
     → ((before : History) (from : Origin) → IsResolved before resolved → IsWritable (before ++ record { change = resolved.change; origin = from } ∷ [])
     → terms ≡ length (lexicon_at before (length before)) → time ≡ length before + 1

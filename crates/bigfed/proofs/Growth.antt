@@ -1,10 +1,11 @@
 -- The indexes of a history, as it grows by one change.
-use Rattle.std.proofs.Common.{◌≡◌, ℕ, suc, ◌+◌, ◌*◌, ◌<◌, ◌≤◌, ◌^◌, Bool, true, false, if◌then◌else◌, List, [], ◌∷◌, ◌++◌, length, map, Option, None, inl, inr, refl, sym, ◌∙◌, ap, subst, arith, take, get_or}
-use Rattle.std.proofs.lemmas.List.{take_more}
+use Rattle.std.proofs.Common.{◌≡◌, ℕ, zero, suc, ◌+◌, ◌*◌, ◌<◌, ◌≤◌, ◌^◌, Bool, true, false, if◌then◌else◌, List, [], ◌∷◌, ◌++◌, length, map, Option, None, inl, inr, refl, sym, ◌∙◌, ap, subst, arith, take, get_or}
+use Rattle.std.proofs.lemmas.List.{take_more, take_all, length-map}
 use Rattle.std.specs.List.{AllByRecursion, list_any}
 use Rattle.term_core.specs.declared.term.Term.{Term}
 use Rattle.term_core.specs.declared.statement.Statement.{Statement}
-use Rattle.term_core.specs.Lists.{Has}
+use Rattle.base_core.specs.Lists.{Has}
+use Rattle.term_core.specs.Spelling.{spelling}
 use Rattle.term_core.specs.Term.{IsTerm, IsStatement}
 use Rattle.fed_bytes.specs.declared.span.Span.{Span}
 use Rattle.fed_bytes.specs.Keys.{IsUpTo, IsIn, IsBeforeEnd}
@@ -196,3 +197,34 @@ origins-one_more (first ∷ history) e = ap (λ rest. first.origin ∷ rest) (or
 pub origins_grow : (history : History) (e : Committed) (old new : List Origin) → old ≡ map (λ (committed : Committed). committed.origin) history → new ≡ old ++ e.origin ∷ []
     → new ≡ map (λ (committed : Committed). committed.origin) (history ++ e ∷ [])
 origins_grow history e old new was is = is ∙ ap (λ xs. xs ++ e.origin ∷ []) was ∙ sym (origins-one_more history e)
+
+-- ---- ids by spellings
+
+spelled_next : (history : History) (terms : List Term) (i : ℕ) (key : List ℕ) (id : Option ℕ) (ids : List (Option ℕ)) → i < length terms
+    → key ≡ get_or (map spelling terms) i key → AllByRecursion IsTerm terms → ((term : Term) → IsTerm term → key ≡ spelling term → IsIdOf history term id)
+    → AreIdsOf history (take i terms) ids → AreIdsOf history (take (suc i) terms) (ids ++ id ∷ [])
+spelled_next history [] i key id ids below at rules is are = absurd (omega arith)
+spelled_next history (term ∷ terms) zero key id [] below at rules is are = (is term rules.0 at, tt)
+spelled_next history (term ∷ terms) zero key id (first ∷ ids) below at rules is are = absurd are
+spelled_next history (term ∷ terms) (suc i) key id [] below at rules is are = absurd are
+spelled_next history (term ∷ terms) (suc i) key id (first ∷ ids) below at rules is are =
+    (are.0, spelled_next history terms i key id ids (omega arith) at rules.1 is are.1)
+
+-- the id of the term with the next spelling
+pub spelled_turn : (history : History) (terms : List Term) (spellings : List (List ℕ)) (i : ℕ) (key : List ℕ) (id : Option ℕ) (ids new : List (Option ℕ))
+    → i < length spellings → key ≡ get_or spellings i key → spellings ≡ map spelling terms → AllByRecursion IsTerm terms
+    → ((term : Term) → IsTerm term → key ≡ spelling term → IsIdOf history term id)
+    → AreIdsOf history (take i terms) ids → new ≡ ids ++ id ∷ [] → AreIdsOf history (take (i + 1) terms) new
+spelled_turn history terms spellings i key id ids new below at spelled rules is are pushed =
+    let next : i + 1 ≡ suc i = omega arith in
+    let long : length spellings ≡ length terms = ap length spelled ∙ length-map terms spelling in
+    let there = spelled_next history terms i key id ids (omega arith) (at ∙ ap (λ keys. get_or keys i key) spelled) rules is are in
+    subst (AreIdsOf history (take (i + 1) terms)) (sym pushed) (subst (λ n. AreIdsOf history (take n terms) (ids ++ id ∷ [])) (sym next) there)
+
+-- the ids of the terms with all spellings
+pub spelled_all : (history : History) (terms : List Term) (spellings : List (List ℕ)) (i : ℕ) (ids made : List (Option ℕ)) → length spellings ≤ i
+    → spellings ≡ map spelling terms → AreIdsOf history (take i terms) ids → made ≡ ids → AreIdsOf history terms made
+spelled_all history terms spellings i ids made over spelled are same =
+    let long : length spellings ≡ length terms = ap length spelled ∙ length-map terms spelling in
+    let past : length terms ≤ i = omega (arith, over) in
+    subst (AreIdsOf history terms) (sym same) (subst (λ front. AreIdsOf history front ids) (take_all i terms past) are)

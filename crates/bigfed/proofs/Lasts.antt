@@ -4,7 +4,7 @@ use Rattle.std.specs.Prelude.{IsNone, IfSome, IfOk, MatchOption, Result, Ok, Err
 use Rattle.term_core.specs.declared.term.Term.{Term}
 use Rattle.term_core.specs.Term.{IsTerm}
 use Rattle.term_core.specs.Spelling.{spelling}
-use Rattle.fed_bytes.specs.Numbers.{number_bytes}
+use Rattle.base_core.specs.Numbers.{number_bytes}
 use Rattle.window_core.specs.declared.rows.Index.{Index}
 use Rattle.window_core.specs.declared.rows.Index.TheVariants.{T2i, I2t}
 use Rattle.window_core.specs.declared.rows.Row.{Row}

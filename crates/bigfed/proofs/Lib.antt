@@ -8,5 +8,6 @@ pub mod Known
 pub mod Lasts
 pub mod Ordered
 pub mod Outsides
+pub mod Seats
 pub mod Solved
 pub mod Steps

@@ -1,7 +1,8 @@
 -- What a sink took and what a shelf gave, one call after another.
 use Rattle.std.proofs.Common.{◌≡◌, ℕ, ◌<◌, ◌≤◌, Bool, true, false, List, [], ◌∷◌, ◌++◌, length, Option, Some, None, refl, sym, ◌∙◌, ap, subst, arith, nat_lt, cond, inl, inr, append_assoc, length-append, ◌^◌}
 use Rattle.std.proofs.lemmas.Bool.{le-ltb, lt-ltb, ltb-false}
-use Rattle.work_text.specs.Outside.{HasRisen, IsTaken, IsRead, IsFound, IsFetched, IsDocOf, IsWithin, read_up_to, document_named}
+use Rattle.base_core.specs.Faults.{HasRisen}
+use Rattle.work_text.specs.Outside.{IsTaken, IsRead, IsFound, IsFetched, IsDocOf, IsWithin, read_up_to, document_named}
 use Rattle.bigfed.specs.Reading.{IsPartly, IsWhole}
 use Rattle.work_text.specs.declared.docs.Doc.{Doc}
 use Rattle.work_text.specs.declared.docs.Doc.TheVariants.{Bytes, Missing, TooLarge}

@@ -3,11 +3,12 @@ use Rattle.std.proofs.Common.{◌≡◌, ℕ, ◌+◌, ◌<◌, ◌≤◌, List,
 use Rattle.std.proofs.Common.{drop, get_or, subst, append_assoc}
 use Rattle.std.proofs.lemmas.List.{length-map, drop_more, drop_all}
 use Rattle.term_core.specs.declared.statement.Statement.{Statement}
-use Rattle.term_core.specs.Lines.{lines_of}
-use Rattle.term_core.specs.declared.lines.LineEnd.TheVariants.{Any}
+use Rattle.base_core.specs.Lines.{lines_of}
+use Rattle.base_core.specs.declared.lines.LineEnd.TheVariants.{Any}
 use Rattle.nt_text.specs.declared.document.DocFault.{DocFault}
 use Rattle.nt_text.specs.Document.{IsDocument, IsFirstLabel}
-use Rattle.nt_text.specs.Faults.{HasCause}
+use Rattle.nt_text.specs.declared.document.DocFault.TheVariants as fault
+use Rattle.nt_text.specs.Faults.{IsFirstBadLine, IsDocumentFault, IsNoMemory}
 use Rattle.nt_text.specs.Limits.{AreWithinLimits}
 use Rattle.work_text.specs.declared.docs.Doc.{Doc}
 use Rattle.work_text.specs.declared.docs.Doc.TheVariants.{Bytes}
@@ -21,19 +22,19 @@ use Rattle.work_text.specs.declared.report.Outcome.{Outcome}
 use Rattle.work_text.specs.declared.report.Outcome.TheVariants.{Changed}
 use Rattle.change_model.specs.History.{History}
 use Rattle.bigfed.specs.declared.store.Store.{Store}
-use Rattle.bigfed.specs.Legal.{IsReadAs, Commits, IsRefused, refusal_of, LoadStep, UnloadStep, QueryStep, QueryFileStep, Step, Runs}
-use Rattle.bigfed.specs.Standing.{StandsFor}
+use Rattle.bigfed.specs.Legal.{IsReadAs, Commits, IsRefused, refusal_of, refused_label, ChangeStep, QueryStep, QueryFileStep, Step, Runs}
+use Rattle.bigfed.specs.Standing.{StoreStandsFor}
 
 -- a store has as many origins as its history has changes
-pub length-origins : (store : Store) (history : History) → StandsFor store history → length store.origins ≡ length history
+pub length-origins : (store : Store) (history : History) → StoreStandsFor store history → length store.origins ≡ length history
 length-origins store history stands = ap length stands.origins ∙ length-map history (λ (committed : Committed). committed.origin)
 
 -- a change was committed
 pub committed : {E : Type 0} (result : Result Outcome E) (old new : Store) (history : History) (kind : Kind) (statements : List Statement) (origin : Origin)
-    → StandsFor old history
+    → StoreStandsFor old history
     → IfOk result (λ outcome. outcome ≡ Changed (length old.origins + 1))
-    → OnOk result (StandsFor new (history ++ record { change = record { kind = kind; statements = statements }; origin = origin } ∷ []))
-    → IfOk result (λ outcome. (after : History) × Commits kind statements origin history outcome after × StandsFor new after)
+    → OnOk result (StoreStandsFor new (history ++ record { change = record { kind = kind; statements = statements }; origin = origin } ∷ []))
+    → IfOk result (λ outcome. (after : History) × Commits kind statements origin history outcome after × StoreStandsFor new after)
 committed (Ok outcome) old new history kind statements origin stands time after = (
   history ++ record { change = record { kind = kind; statements = statements }; origin = origin } ∷ [],
   (time ∙ ap (λ n. Changed (n + 1)) (length-origins old history stands), refl),
@@ -41,57 +42,52 @@ committed (Ok outcome) old new history kind statements origin stands time after 
 )
 committed (Err e) old new history kind statements origin stands time after = tt
 
--- a document was put in
-pub loaded : {E : Type 0} (result : Result Outcome E) (new : Store) (history : History) (bytes : List ℕ) (statements : List Statement) (first_label : Option ℕ)
-    (origin : Origin) → IsReadAs bytes statements first_label
-    → IfOk result (λ outcome. (after : History) × Commits Add statements origin history outcome after × StandsFor new after)
-    → IfOk result (λ outcome. (after : History) × LoadStep (Bytes bytes) origin history outcome after × StandsFor new after)
-loaded (Ok outcome) new history bytes statements first_label origin read done = (done.0, inl (statements, first_label, read, done.1), done.2)
-loaded (Err e) new history bytes statements first_label origin read done = tt
+-- what isn't some is none
+pub none_of : (o : Option ℕ) → ((x : ℕ) → o ≡ Some x → ⊥) → o ≡ None
+none_of None never = refl
+none_of (Some x) never = absurd (never x refl)
 
--- a document in which no line has a blank node
-pub read_without_label : (bytes : List ℕ) (statements : List Statement) (first_label : Option ℕ) → IsDocument bytes statements → AreWithinLimits statements
-    → IsFirstLabel (lines_of Any bytes) 1 first_label → ((line : ℕ) → first_label ≡ Some line → ⊥) → IsReadAs bytes statements None
-read_without_label bytes statements None says within label none = record { document = says; within = within; label = label }
-read_without_label bytes statements (Some line) says within label none = absurd (none line refl)
+-- a document's statements were put in or taken out
+pub changed : {E : Type 0} (result : Result Outcome E) (new : Store) (history : History) (kind : Kind) (bytes : List ℕ) (statements : List Statement) (first_label : Option ℕ)
+    (origin : Origin) → IsReadAs bytes statements first_label → refused_label kind first_label ≡ None
+    → IfOk result (λ outcome. (after : History) × Commits kind statements origin history outcome after × StoreStandsFor new after)
+    → IfOk result (λ outcome. (after : History) × ChangeStep kind (Bytes bytes) origin history outcome after × StoreStandsFor new after)
+changed (Ok outcome) new history kind bytes statements first_label origin read free done = (done.0, inl (statements, first_label, read, inl (free, done.1)), done.2)
+changed (Err e) new history kind bytes statements first_label origin read free done = tt
 
--- a document was taken out
-pub unloaded : {E : Type 0} (result : Result Outcome E) (new : Store) (history : History) (bytes : List ℕ) (statements : List Statement) (origin : Origin)
-    → IsReadAs bytes statements None
-    → IfOk result (λ outcome. (after : History) × Commits Remove statements origin history outcome after × StandsFor new after)
-    → IfOk result (λ outcome. (after : History) × UnloadStep (Bytes bytes) origin history outcome after × StandsFor new after)
-unloaded (Ok outcome) new history bytes statements origin read done = (done.0, inl (statements, inl (read, done.1)), done.2)
-unloaded (Err e) new history bytes statements origin read done = tt
+-- what is told of a fault is told of a bad line
+told_of : (bytes : List ℕ) (bad : DocFault) (outcome : Outcome) → IsDocumentFault bytes bad → refusal_of bad ≡ Some outcome → IsFirstBadLine bytes bad
+told_of bytes fault.NoMemory outcome cause says = cc
+told_of bytes (fault.Line line) outcome (inl never) says = absurd never
+told_of bytes (fault.Line line) outcome (inr bad) says = bad
+told_of bytes (fault.TooLong line) outcome (inl never) says = absurd never
+told_of bytes (fault.TooLong line) outcome (inr bad) says = bad
+told_of bytes (fault.TooMany line) outcome (inl never) says = absurd never
+told_of bytes (fault.TooMany line) outcome (inr bad) says = bad
 
 -- a document with a bad line was refused
 pub refused : {E : Type 0} (result : Result Outcome E) (store : Store) (history : History) (bytes : List ℕ) (bad : DocFault)
-    → StandsFor store history → HasCause bytes bad → IfOk result (λ outcome. refusal_of bad ≡ Some outcome)
-    → IfOk result (λ outcome. (after : History) × IsRefused bytes history outcome after × StandsFor store after)
-refused (Ok outcome) store history bytes bad stands cause says = (history, (bad, cause, says, refl), stands)
+    → StoreStandsFor store history → IsDocumentFault bytes bad → IfOk result (λ outcome. refusal_of bad ≡ Some outcome)
+    → IfOk result (λ outcome. (after : History) × IsRefused bytes history outcome after × StoreStandsFor store after)
+refused (Ok outcome) store history bytes bad stands cause says = (history, (bad, told_of bytes bad outcome cause says, says, refl), stands)
 refused (Err e) store history bytes bad stands cause says = tt
 
-pub not_loaded : {E : Type 0} (result : Result Outcome E) (store : Store) (history : History) (bytes : List ℕ) (origin : Origin)
-    → IfOk result (λ outcome. (after : History) × IsRefused bytes history outcome after × StandsFor store after)
-    → IfOk result (λ outcome. (after : History) × LoadStep (Bytes bytes) origin history outcome after × StandsFor store after)
-not_loaded (Ok outcome) store history bytes origin done = (done.0, inr done.1, done.2)
-not_loaded (Err e) store history bytes origin done = tt
-
-pub not_unloaded : {E : Type 0} (result : Result Outcome E) (store : Store) (history : History) (bytes : List ℕ) (origin : Origin)
-    → IfOk result (λ outcome. (after : History) × IsRefused bytes history outcome after × StandsFor store after)
-    → IfOk result (λ outcome. (after : History) × UnloadStep (Bytes bytes) origin history outcome after × StandsFor store after)
-not_unloaded (Ok outcome) store history bytes origin done = (done.0, inr done.1, done.2)
-not_unloaded (Err e) store history bytes origin done = tt
+pub not_changed : {E : Type 0} (result : Result Outcome E) (store : Store) (history : History) (kind : Kind) (bytes : List ℕ) (origin : Origin)
+    → IfOk result (λ outcome. (after : History) × IsRefused bytes history outcome after × StoreStandsFor store after)
+    → IfOk result (λ outcome. (after : History) × ChangeStep kind (Bytes bytes) origin history outcome after × StoreStandsFor store after)
+not_changed (Ok outcome) store history kind bytes origin done = (done.0, inr done.1, done.2)
+not_changed (Err e) store history kind bytes origin done = tt
 
 -- a query leaves the history as it was
 pub asked : {E : Type 0} (result : Result Outcome E) (store : Store) (docs : List ℕ → Doc) (origin : Origin) (text : List ℕ) (history : History)
-    → StandsFor store history → IfOk result (QueryStep text history)
-    → IfOk result (λ outcome. (after : History) × Step docs origin (Ask text) history outcome after × StandsFor store after)
+    → StoreStandsFor store history → IfOk result (QueryStep text history)
+    → IfOk result (λ outcome. (after : History) × Step docs origin (Ask text) history outcome after × StoreStandsFor store after)
 asked (Ok outcome) store docs origin text history stands step = (history, (step, refl), stands)
 asked (Err e) store docs origin text history stands step = tt
 
 pub document_asked : {E : Type 0} (result : Result Outcome E) (store : Store) (docs : List ℕ → Doc) (origin : Origin) (name : List ℕ) (history : History)
-    → StandsFor store history → IfOk result (QueryFileStep (docs name) history)
-    → IfOk result (λ outcome. (after : History) × Step docs origin (QueryFile name) history outcome after × StandsFor store after)
+    → StoreStandsFor store history → IfOk result (QueryFileStep (docs name) history)
+    → IfOk result (λ outcome. (after : History) × Step docs origin (QueryFile name) history outcome after × StoreStandsFor store after)
 document_asked (Ok outcome) store docs origin name history stands step = (history, (step, refl), stands)
 document_asked (Err e) store docs origin name history stands step = tt
 

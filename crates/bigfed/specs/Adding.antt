@@ -1,4 +1,4 @@
--- The rows of a change that go into the indexes.
+-- Private: the rows of a change that go into the indexes.
 use Rattle.std.specs.Prelude.{◌≡◌, ℕ, ◌+◌, List}
 use Rattle.window_core.specs.declared.rows.Row.{Row}
 use Rattle.window_core.specs.declared.live.LiveWindow.{LiveWindow}

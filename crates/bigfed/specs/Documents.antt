@@ -1,4 +1,4 @@
--- The documents that a run was given.
+-- Private: the documents that a run was given.
 use Rattle.std.specs.Prelude.{◌≡◌, ◌↔◌, ℕ, List, Option, IsSome, IfSome, IsTrue}
 use Rattle.std.specs.BTreeMap.{get, BTreeMap}
 use Rattle.std.specs.Option.{unwrap_or}

@@ -1,7 +1,7 @@
--- What the five indexes hold, and what is read from them.
+-- Private: what the five indexes hold, and what is read from them.
 use Rattle.std.specs.Prelude.{◌≡◌, ◌↔◌, ℕ, ◌≤◌, List, [], length, Option, Some, None}
 use Rattle.term_core.specs.declared.term.Term.{Term}
-use Rattle.term_core.specs.Lists.{Has}
+use Rattle.base_core.specs.Lists.{Has}
 use Rattle.fed_bytes.specs.declared.span.Span.{Span}
 use Rattle.fed_bytes.specs.Keys.{IsIn}
 use Rattle.triple_keys.specs.declared.key.Ids.{Ids}

@@ -3,12 +3,12 @@ use Rattle.std.specs.Prelude.{◌≡◌, ℕ, ◌+◌, ◌<◌, ◌≤◌, List,
 use Rattle.std.specs.List.{slice_get}
 use Rattle.std.specs.Option.{unwrap_or}
 use Rattle.term_core.specs.declared.statement.Statement.{Statement}
-use Rattle.term_core.specs.declared.lines.LineEnd.TheVariants.{Any}
-use Rattle.term_core.specs.Lines.{lines_of}
+use Rattle.base_core.specs.declared.lines.LineEnd.TheVariants.{Any}
+use Rattle.base_core.specs.Lines.{lines_of}
 use Rattle.nt_text.specs.declared.document.DocFault.{DocFault}
 use Rattle.nt_text.specs.declared.document.DocFault.TheVariants as fault
 use Rattle.nt_text.specs.Document.{IsDocument, IsFirstLabel}
-use Rattle.nt_text.specs.Faults.{HasCause}
+use Rattle.nt_text.specs.Faults.{IsFirstBadLine}
 use Rattle.nt_text.specs.Limits.{AreWithinLimits}
 use Rattle.bgp_model.specs.declared.query.Query.{Query}
 use Rattle.bgp_model.specs.declared.solution.Solution.{Solution}
@@ -28,8 +28,8 @@ use Rattle.work_text.specs.declared.work.Work.{Work}
 use Rattle.change_model.specs.History.{History, graph_at}
 use Rattle.query_text.specs.declared.fault.QueryFault.{QueryFault}
 use Rattle.query_text.specs.declared.fault.QueryFault.TheVariants as query_fault
-use Rattle.query_text.specs.Meaning.{Reads}
-use Rattle.query_text.specs.Refusals.{HasCause as HasQueryCause}
+use Rattle.query_text.specs.Meaning.{ReadsQuery}
+use Rattle.query_text.specs.Refusals.{IsQueryFault}
 
 -- the bytes are a document of these statements, within the limits, and this is the first line that has a blank node
 pub record IsReadAs (bytes : List ℕ) (statements : List Statement) (first_label : Option ℕ) : Type 0 where
@@ -53,28 +53,25 @@ refusal_of (fault.TooMany line) = Some (TooManyStatements line)
 -- a document with a bad line is refused whole
 abbrev pub IsRefused : List ℕ → History → Outcome → History → Type 0
 IsRefused bytes before outcome after =
-    (bad : DocFault) × HasCause bytes bad × (refusal_of bad ≡ Some outcome) × (after ≡ before)
+    (bad : DocFault) × IsFirstBadLine bytes bad × (refusal_of bad ≡ Some outcome) × (after ≡ before)
 
--- the document's statements are put in
-abbrev pub Loads : List ℕ → Origin → History → Outcome → History → Type 0
-Loads bytes origin before outcome after =
-    (statements : List Statement) × (first_label : Option ℕ) × IsReadAs bytes statements first_label × Commits Add statements origin before outcome after
+-- the line of the first blank node, where a change of this kind may have none: its label would mean a node of the change that takes out
+abbrev pub refused_label : Kind → Option ℕ → Option ℕ
+refused_label Add first_label = None
+refused_label Remove first_label = first_label
 
--- A document without blank nodes has its statements taken out. One that has some is refused, and its first such line is named.
-abbrev pub Unloads : List ℕ → Origin → History → Outcome → History → Type 0
-Unloads bytes origin before outcome after =
-    (statements : List Statement) × ((IsReadAs bytes statements None × Commits Remove statements origin before outcome after)
-    ⊎ ((line : ℕ) × IsReadAs bytes statements (Some line) × (outcome ≡ LabelInRemoval line) × (after ≡ before)))
+-- The document's statements are put in or taken out. A document that may have no blank node and has some is refused, and the first such line is named.
+abbrev pub Changes : Kind → List ℕ → Origin → History → Outcome → History → Type 0
+Changes kind bytes origin before outcome after =
+    (statements : List Statement) × (first_label : Option ℕ) × IsReadAs bytes statements first_label
+    × (((refused_label kind first_label ≡ None) × Commits kind statements origin before outcome after)
+    ⊎ ((line : ℕ) × (refused_label kind first_label ≡ Some line) × (outcome ≡ LabelInRemoval line) × (after ≡ before)))
 
-abbrev pub LoadStep : Doc → Origin → History → Outcome → History → Type 0
-LoadStep Missing origin before outcome after = (outcome ≡ NoDocument) × (after ≡ before)
-LoadStep TooLarge origin before outcome after = (outcome ≡ DocumentTooLarge) × (after ≡ before)
-LoadStep (Bytes bytes) origin before outcome after = Loads bytes origin before outcome after ⊎ IsRefused bytes before outcome after
-
-abbrev pub UnloadStep : Doc → Origin → History → Outcome → History → Type 0
-UnloadStep Missing origin before outcome after = (outcome ≡ NoDocument) × (after ≡ before)
-UnloadStep TooLarge origin before outcome after = (outcome ≡ DocumentTooLarge) × (after ≡ before)
-UnloadStep (Bytes bytes) origin before outcome after = Unloads bytes origin before outcome after ⊎ IsRefused bytes before outcome after
+-- a load or an unload
+abbrev pub ChangeStep : Kind → Doc → Origin → History → Outcome → History → Type 0
+ChangeStep kind Missing origin before outcome after = (outcome ≡ NoDocument) × (after ≡ before)
+ChangeStep kind TooLarge origin before outcome after = (outcome ≡ DocumentTooLarge) × (after ≡ before)
+ChangeStep kind (Bytes bytes) origin before outcome after = Changes kind bytes origin before outcome after ⊎ IsRefused bytes before outcome after
 
 abbrev pub column_names : Query → List (List ℕ)
 column_names query = map (λ column. unwrap_or (slice_get query.names column) []) query.columns
@@ -82,7 +79,7 @@ column_names query = map (λ column. unwrap_or (slice_get query.names column) []
 -- the solutions of a query of at most 16 patterns, over the triples left by all changes so far
 abbrev pub IsAnswer : List ℕ → History → Outcome → Type 0
 IsAnswer text history outcome =
-    (query : Query) × Reads text query × (length query.patterns ≤ 16) × (rows : List Solution) × Solutions (graph_at history (length history)) query rows
+    (query : Query) × ReadsQuery text query × (length query.patterns ≤ 16) × (rows : List Solution) × Solutions (graph_at history (length history)) query rows
     × (((length rows ≤ 1000000) × (outcome ≡ Answered (length history) (column_names query) rows))
     ⊎ ((1000000 < length rows) × (outcome ≡ TooManyRows (length history))))
 
@@ -94,7 +91,7 @@ query_refusal_of (query_fault.LeftOut place word) = Some (QueryLeftOut place wor
 query_refusal_of query_fault.TooManyPatterns = Some TooManyPatterns
 
 abbrev pub IsRefusedQuery : List ℕ → Outcome → Type 0
-IsRefusedQuery text outcome = (bad : QueryFault) × HasQueryCause text bad × (query_refusal_of bad ≡ Some outcome)
+IsRefusedQuery text outcome = (bad : QueryFault) × IsQueryFault text bad × (query_refusal_of bad ≡ Some outcome)
 
 abbrev pub QueryStep : List ℕ → History → Outcome → Type 0
 QueryStep text history outcome =
@@ -109,8 +106,8 @@ QueryFileStep (Bytes text) history outcome = QueryStep text history outcome
 
 -- what a command may do to the history, and what its outcome then is
 abbrev pub Step : (List ℕ → Doc) → Origin → Command → History → Outcome → History → Type 0
-Step docs origin (Load name) before outcome after = LoadStep (docs name) origin before outcome after
-Step docs origin (Unload name) before outcome after = UnloadStep (docs name) origin before outcome after
+Step docs origin (Load name) before outcome after = ChangeStep Add (docs name) origin before outcome after
+Step docs origin (Unload name) before outcome after = ChangeStep Remove (docs name) origin before outcome after
 Step docs origin (Ask text) before outcome after = QueryStep text before outcome × (after ≡ before)
 Step docs origin (QueryFile name) before outcome after = QueryFileStep (docs name) before outcome × (after ≡ before)
 

@@ -3,6 +3,7 @@ pub mod Documents
 pub mod Indexed
 pub mod Legal
 pub mod Names
+pub mod Naming
 pub mod Program
 pub mod Reading
 pub mod Shown

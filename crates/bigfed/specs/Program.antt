@@ -12,9 +12,10 @@ use Rattle.work_text.specs.declared.work.Command.{Command}
 use Rattle.work_text.specs.declared.work.Line.{Line}
 use Rattle.work_text.specs.declared.work.Work.{Work}
 use Rattle.change_model.specs.History.{History}
-use Rattle.work_text.specs.Outside.{HasRisen, IsDocOf, IsTaken}
+use Rattle.base_core.specs.Faults.{HasRisen}
+use Rattle.work_text.specs.Outside.{IsDocOf, IsTaken}
 use Rattle.work_text.specs.Report.{ended, report_text}
-use Rattle.work_text.specs.Work.{IsWork, IsBadLine}
+use Rattle.work_text.specs.Work.{IsWork, IsBadWorkLine}
 use Rattle.bigfed.specs.declared.answer.Answer.{Answer}
 use Rattle.bigfed.specs.declared.answer.Answer.TheVariants.{Usage, NoWork, WorkTooLarge, BadWork, DocumentsTooLarge, ShelfFault, Ran}
 use Rattle.bigfed.specs.Legal.{Legal}
@@ -68,7 +69,7 @@ IsPrintable WorkTooLarge = Unit {0}
 IsPrintable (BadWork line) = Unit {0}
 IsPrintable DocumentsTooLarge = Unit {0}
 IsPrintable (ShelfFault count) = Unit {0}
-IsPrintable (Ran work report) = report.opened + length report.origins < 2 ^ 64 - 1
+IsPrintable (Ran work report) = report.opened + length report.origins < 2 ^ 64
 
 -- the one form of words
 abbrev pub replay_of : List ℕ → List (List ℕ)
@@ -134,23 +135,23 @@ pub record AreTooLarge (told : Documents) (bytes : List ℕ) : Type 0 where
   pub above : 536870912 < size
 
 -- The answer has its cause in the words, in what the shelf tells, and in its count of faults before and after the call.
-abbrev pub HasCause : List (List ℕ) → Documents → ℕ → ℕ → Answer → Type 0
-HasCause words told before after Usage = (name : List ℕ) → words ≡ replay_of name → ⊥
-HasCause words told before after NoWork = (name : List ℕ) × (words ≡ replay_of name) × IsDocOf told 1048576 name Missing
-HasCause words told before after WorkTooLarge = (name : List ℕ) × (words ≡ replay_of name) × IsDocOf told 1048576 name TooLarge
-HasCause words told before after (BadWork line) =
-    (name bytes : List ℕ) × (words ≡ replay_of name) × IsDocOf told 1048576 name (Bytes bytes) × IsBadLine bytes line
-HasCause words told before after DocumentsTooLarge =
+abbrev pub IsAnswerTo : List (List ℕ) → Documents → ℕ → ℕ → Answer → Type 0
+IsAnswerTo words told before after Usage = (name : List ℕ) → words ≡ replay_of name → ⊥
+IsAnswerTo words told before after NoWork = (name : List ℕ) × (words ≡ replay_of name) × IsDocOf told 1048576 name Missing
+IsAnswerTo words told before after WorkTooLarge = (name : List ℕ) × (words ≡ replay_of name) × IsDocOf told 1048576 name TooLarge
+IsAnswerTo words told before after (BadWork line) =
+    (name bytes : List ℕ) × (words ≡ replay_of name) × IsDocOf told 1048576 name (Bytes bytes) × IsBadWorkLine bytes line
+IsAnswerTo words told before after DocumentsTooLarge =
     (name bytes : List ℕ) × (words ≡ replay_of name) × IsDocOf told 1048576 name (Bytes bytes) × AreTooLarge told bytes
-HasCause words told before after (ShelfFault count) =
+IsAnswerTo words told before after (ShelfFault count) =
     (name : List ℕ) × (words ≡ replay_of name) × HasRisen before after × (count ≡ after)
-HasCause words told before after (Ran work report) =
+IsAnswerTo words told before after (Ran work report) =
     (name bytes : List ℕ) × (words ≡ replay_of name) × IsDocOf told 1048576 name (Bytes bytes) × Reports told bytes work report
 
--- The sink took the whole text and the status is the answer's, or it took a front of the text, its count rose, and the status is 3.
+-- The sink took the whole text without a fault and the status is the answer's, or it took a front of the text, its count rose, and the status is 3.
 abbrev pub IsPrinted : List ℕ → ℕ → Option (List ℕ) → Option (List ℕ) → ℕ → ℕ → ℕ → Type 0
 IsPrinted text status_of_answer old new before after status =
-    (IsTaken old new text × (status ≡ status_of_answer))
+    (IsTaken old new text × (after ≡ before) × (status ≡ status_of_answer))
     ⊎ ((front rest : List ℕ) × (text ≡ front ++ rest) × IsTaken old new front × HasRisen before after × (status ≡ 3))
 
 -- what is there before and after a call of the program: what the shelf tells and its faults, what the sink took and its faults
@@ -166,13 +167,14 @@ pub record Outside : Type 0 where
 -- an answer with its cause was printed
 pub record Answers (words : List (List ℕ)) (outside : Outside) (status : ℕ) : Type 0 where
   pub answer : Answer
-  pub cause : HasCause words outside.told outside.shelf_faults_before outside.shelf_faults answer
+  pub cause : IsAnswerTo words outside.told outside.shelf_faults_before outside.shelf_faults answer
   pub printed : IsPrinted (answer_text answer) (answer_status answer) outside.taken_before outside.taken outside.sink_faults_before outside.sink_faults status
 
--- memory ran out, and nothing was printed
+-- memory ran out, and the sink wasn't called
 pub record IsOutOfMemory (outside : Outside) (status : ℕ) : Type 0 where
   pub status_is : status ≡ 4
   pub nothing : IsTaken outside.taken_before outside.taken []
+  pub no_fault : outside.sink_faults ≡ outside.sink_faults_before
 
 -- what one call of the program does
 abbrev pub Serves : List (List ℕ) → Outside → ℕ → Type 0

@@ -1,4 +1,4 @@
--- A document that is being read from a shelf.
+-- Private: a document that is being read from a shelf.
 use Rattle.std.specs.Prelude.{◌≡◌, ℕ, Bool, true, false, List, ◌++◌, Option, Some, None}
 use Rattle.work_text.specs.Outside.{document_named}
 
@@ -14,6 +14,6 @@ IsWhole None name bytes = Unit {0}
 IsWhole (Some documents) name bytes = document_named documents name ≡ Some bytes
 
 -- A chunk was read: either it goes on, or the document is whole.
-abbrev pub GoesOn : Bool → Option (List (List ℕ × List ℕ)) → List ℕ → List ℕ → Option (List ℕ) → Type 0
-GoesOn true told name bytes left = IsPartly told name bytes left
-GoesOn false told name bytes left = IsWhole told name bytes
+abbrev pub DocumentGoesOn : Bool → Option (List (List ℕ × List ℕ)) → List ℕ → List ℕ → Option (List ℕ) → Type 0
+DocumentGoesOn true told name bytes left = IsPartly told name bytes left
+DocumentGoesOn false told name bytes left = IsWhole told name bytes

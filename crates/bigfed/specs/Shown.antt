@@ -1,4 +1,4 @@
--- How the ids of a span are found, chunk by chunk.
+-- Private: how the ids of a span are found, chunk by chunk.
 use Rattle.std.specs.Prelude.{◌≡◌, ℕ, Bool, List, Option, Some, None, nat_eq, ◌⊎◌}
 use Rattle.std.specs.List.{dedup}
 use Rattle.std.specs.Cmp.Lexicographic.{pointwise}
@@ -11,9 +11,9 @@ use Rattle.window_core.specs.declared.rows.Row.{Row}
 use Rattle.change_model.specs.Laws.{IsValue}
 
 -- the key, if there is one and it is in the span
-abbrev pub GoesOn : Span → Option (List ℕ) → Option (List ℕ) → Type 0
-GoesOn span None next = next ≡ None
-GoesOn span (Some key) next = (IsIn span key × (next ≡ Some key)) ⊎ ((IsIn span key → ⊥) × (next ≡ None))
+abbrev pub SpanGoesOn : Span → Option (List ℕ) → Option (List ℕ) → Type 0
+SpanGoesOn span None next = next ≡ None
+SpanGoesOn span (Some key) next = (IsIn span key × (next ≡ Some key)) ⊎ ((IsIn span key → ⊥) × (next ≡ None))
 
 -- the row is a value in the span, and these are the ids of its key
 pub record IsKept (order : Order) (span : Span) (row : Row) (ids : Ids) : Type 0 where

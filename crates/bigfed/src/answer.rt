@@ -2,8 +2,8 @@
 ghost use Rattle.std.specs.Prelude.{◌≡◌, ◌++◌, ◌+◌, ◌-◌, ◌<◌, ◌^◌, length, OnOk};
 ghost use Rattle.bigfed.specs.Program.{answer_text, answer_status, is_done, session_done, all_done, IsPrintable};
 
+use base_core::{List, Want};
 use std::alloc::Global;
-use term_core::{List, Want};
 use work_text::{Outcome, RunReport, Work, write_report};
 
 /// What one call of the program answers.

@@ -1,14 +1,15 @@
 //! The program over any shelf and any sink.
 ghost use Rattle.std.specs.Prelude.{◌≡◌, ◌≤◌, ◌⊎◌, ℕ, List, [], map, string_bytes, codes, ◌↔◌, IsTrue, IfOk, IsErrOf, MatchOption};
-ghost use Rattle.work_text.specs.Outside.{HasRisen, IsTaken};
-ghost use Rattle.bigfed.specs.Program.{Serves, HasCause, IsPrintable, IsPrinted, replay_of, answer_text, answer_status};
+ghost use Rattle.base_core.specs.Faults.{HasRisen};
+ghost use Rattle.work_text.specs.Outside.{IsTaken};
+ghost use Rattle.bigfed.specs.Program.{Serves, IsAnswerTo, IsPrintable, IsPrinted, replay_of, answer_text, answer_status};
 
 use crate::answer::Answer;
 use crate::replay::replay;
 use crate::shelf::{ShelfFault, gather, read_whole};
 use crate::sink::write_whole;
+use base_core::{Text, Want};
 use std::alloc::Global;
-use term_core::{Text, Want};
 use work_text::{Doc, Failed, Shelf, Sink, WorkFault, read_work};
 
 /// How many bytes a work may have.
@@ -74,7 +75,7 @@ pub fn replay_command<S: Shelf, K: Sink>(
 
 /// What the words ask for, from the usage text to a whole report.
 fn answer_to<S: Shelf>(alloc: Global, words: &[String], shelf: &mut S) -> Result<Answer, Want>
-    ensures cause { IfOk result (HasCause (map string_bytes words.now) (S.documents shelf.old)
+    ensures cause { IfOk result (IsAnswerTo (map string_bytes words.now) (S.documents shelf.old)
         (S.fault_count shelf.old) (S.fault_count shelf.new)) }
     ensures printable { IfOk result IsPrintable }
     ensures same { S.documents shelf.new ≡ S.documents shelf.old }
@@ -118,7 +119,7 @@ fn is_replay(word: &str) -> bool
 
 /// Runs the work of this name.
 fn run_named<S: Shelf>(alloc: Global, name: &Text, shelf: &mut S) -> Result<Answer, ShelfFault>
-    ensures cause { IfOk result (HasCause (replay_of name.now) (S.documents shelf.old)
+    ensures cause { IfOk result (IsAnswerTo (replay_of name.now) (S.documents shelf.old)
         (S.fault_count shelf.old) (S.fault_count shelf.new)) }
     ensures printable { IfOk result IsPrintable }
     ensures fault { IsErrOf result ShelfFault.Failed → HasRisen (S.fault_count shelf.old) (S.fault_count shelf.new) }
@@ -147,7 +148,8 @@ fn print<K: Sink>(alloc: Global, answer: &Answer, sink: &mut K) -> Status
     requires { IsPrintable answer.now }
     ensures printed { IsPrinted (answer_text answer.now) (answer_status answer.now) (K.taken sink.old) (K.taken sink.new)
         (K.fault_count sink.old) (K.fault_count sink.new) result.code
-        ⊎ ((result.code ≡ 4) × IsTaken (K.taken sink.old) (K.taken sink.new) []) }
+        ⊎ ((result.code ≡ 4) × IsTaken (K.taken sink.old) (K.taken sink.new) []
+        × (K.fault_count sink.new ≡ K.fault_count sink.old)) }
     ensures later { K.fault_count sink.old ≤ K.fault_count sink.new }
 {
     let mut text = Vec::new(alloc);

@@ -3,11 +3,11 @@
 //! They meet their traits and tell no content: what a file gives and what the system does with the bytes that it
 //! took is trusted.
 ghost use Rattle.std.specs.Prelude.{◌≤◌, None};
-ghost use Rattle.work_text.specs.Outside.{HasRisen};
+ghost use Rattle.base_core.specs.Faults.{HasRisen};
 
+use base_core::Text;
 use std::fs::{self, File};
 use std::io::{self, ErrorKind, Read, Write};
-use term_core::Text;
 use work_text::{Failed, Shelf, Sink};
 
 /// The files of the working folder, and of any other path that a name gives.

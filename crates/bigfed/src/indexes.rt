@@ -1,10 +1,10 @@
 //! The five indexes of the history, each a window in memory over all keys.
-ghost use Rattle.std.specs.Prelude.{◌≡◌, ◌↔◌, ◌++◌, ◌∷◌, ◌<◌, ◌^◌, [], List as Items, length, take, drop, IfOk, OnOk, IsNone, IfSome, MatchOption};
+ghost use Rattle.std.specs.Prelude.{◌≡◌, ◌↔◌, ◌++◌, ◌∷◌, ◌<◌, ◌^◌, [], List as Items, length, map, take, drop, IfOk, OnOk, IsNone, IfSome, MatchOption};
 ghost use Rattle.std.specs.List.{AllByRecursion};
 ghost use Rattle.term_core.specs.declared.term.Term.{Term as AnyTerm};
 ghost use Rattle.term_core.specs.Spelling.{spelling};
 ghost use Rattle.term_core.specs.Term.{IsTerm, IsStatement};
-ghost use Rattle.fed_bytes.specs.Numbers.{number_bytes};
+ghost use Rattle.base_core.specs.Numbers.{number_bytes};
 ghost use Rattle.triple_keys.specs.declared.key.Ids.{Ids as TheIds};
 ghost use Rattle.window_core.specs.declared.rows.Index.{Index as AnyIndex};
 ghost use Rattle.change_model.specs.History.{History};
@@ -17,12 +17,13 @@ ghost use Rattle.join_core.specs.Asking.{Agrees};
 ghost use Rattle.bigfed.specs.Solving.{AreGraphIds};
 
 use crate::shown::shown_ids;
+use base_core::{List, Want, get_u64, put_u64};
 use change_model::{Change, Entry, Resolved, vocabulary_of};
 use disk_core::NoDisk;
-use fed_bytes::{Key, Span, get_u64, put_u64};
+use fed_bytes::{Key, Span};
 use join_core::Ask;
 use std::alloc::Global;
-use term_core::{List, Term, TermFault, Want};
+use term_core::{Term, TermFault};
 use triple_keys::{Ids, Order};
 use window_core::{Cell, LiveWindow, Row, Window};
 
@@ -83,7 +84,7 @@ impl Indexes {
         ensures change { IfOk result (λ resolved. resolved.change ≡ change) }
     {
         let vocabulary = vocabulary_of(alloc, &change.statements)?;
-        let ids = self.ids_of_terms(alloc, vocabulary.terms.items())?;
+        let ids = self.ids_of_spellings(alloc, vocabulary.spellings.items())?;
         Ok(Resolved {
             change,
             vocabulary,
@@ -104,13 +105,33 @@ impl Indexes {
         Ok(List::of(ids))
     }
 
+    /// For each of the terms with these spellings its id, if it has one.
+    fn ids_of_spellings(&self, alloc: Global, spellings: &[Key]) -> Result<List<Option<u64>>, Want>
+        ensures { (history : History) (terms : Items AnyTerm) → AreIndexesOf history self.now → AllByRecursion IsTerm terms
+            → spellings.now ≡ map spelling terms → IfOk result (AreIdsOf history terms) }
+    {
+        let mut ids = Vec::with_capacity(alloc, spellings.len())?;
+        'spellings: for spelling in spellings {
+            ids.push(self.id_spelled(alloc, spelling.bytes())?)?;
+        }
+        Ok(List::of(ids))
+    }
+
     /// The id of the term, if it has one.
     pub fn id_of(&self, alloc: Global, term: &Term) -> Result<Option<u64>, Want>
         requires { IsTerm term.now }
         ensures { (history : History) → AreIndexesOf history self.now → IfOk result (IsIdOf history term.now) }
     {
         let key = term.encode(alloc)?;
-        match last_value(alloc, &self.t2i, key.as_slice())? {
+        self.id_spelled(alloc, key.as_slice())
+    }
+
+    /// The id of the term with this spelling, if it has one.
+    fn id_spelled(&self, alloc: Global, key: &[u8]) -> Result<Option<u64>, Want>
+        ensures { (history : History) (term : AnyTerm) → AreIndexesOf history self.now → IsTerm term
+            → key.now ≡ spelling term → IfOk result (IsIdOf history term) }
+    {
+        match last_value(alloc, &self.t2i, key)? {
             Some(value) => Ok(number_in(value.bytes())),
             None => Ok(None),
         }
@@ -118,9 +139,10 @@ impl Indexes {
 
     /// The term of the id, if there is one.
     pub fn term_of(&self, alloc: Global, id: u64) -> Result<Option<Term>, Want>
-        ensures { (history : History) → AreIndexesOf history self.now → IfOk result (IsTermOf history id) }
+        ensures term { (history : History) → AreIndexesOf history self.now → IfOk result (IsTermOf history id) }
+        ensures rules { IfOk result (λ found. IfSome found IsTerm) }
     {
-        let mut key = Vec::new(alloc);
+        let mut key = Vec::with_capacity(alloc, 8)?;
         put_u64(id, &mut key)?;
         match last_value(alloc, &self.i2t, key.as_slice())? {
             Some(value) => term_in(alloc, value.bytes()),

@@ -4,13 +4,13 @@ ghost use Rattle.change_model.specs.History.{History};
 ghost use Rattle.work_text.specs.Outside.{IsWithin};
 ghost use Rattle.bigfed.specs.Documents.{docs_of};
 ghost use Rattle.bigfed.specs.Legal.{Legal, Step};
-ghost use Rattle.bigfed.specs.Standing.{StandsFor};
+ghost use Rattle.bigfed.specs.Standing.{StoreStandsFor};
 
 use crate::shelf::Docs;
 use crate::store::Store;
-use change_model::Origin;
+use base_core::{List, Text, Want};
+use change_model::{Kind, Origin};
 use std::alloc::Global;
-use term_core::{List, Text, Want};
 use work_text::{Command, Doc, Line, Outcome, RunReport, Work};
 
 /// Runs the commands of a work in order, from the empty history on.
@@ -44,10 +44,10 @@ fn run_line(
     place: u32,
 ) -> Result<Outcome, Want>
     requires within { (name : List ℕ) → IsWithin 33554432 (docs_of docs.now name) }
-    requires standing { (history : History) × StandsFor store.old history }
-    ensures step { (history : History) → StandsFor store.old history → IfOk result (λ outcome. (after : History)
+    requires standing { (history : History) × StoreStandsFor store.old history }
+    ensures step { (history : History) → StoreStandsFor store.old history → IfOk result (λ outcome. (after : History)
         × Step (docs_of docs.now) (record { session = line.now.session; command = place }) line.now.command history outcome after
-        × StandsFor store.new after) }
+        × StoreStandsFor store.new after) }
     ensures commits { OnOk result (length store.new.origins ≤ length store.old.origins + 1) }
 {
     let origin = Origin {
@@ -58,11 +58,11 @@ fn run_line(
     match &line.command {
         Command::Load(name) => {
             let doc = document_in(docs, name, &missing);
-            store.load(alloc, doc, origin)
+            store.change(alloc, Kind::Add, doc, origin)
         }
         Command::Unload(name) => {
             let doc = document_in(docs, name, &missing);
-            store.unload(alloc, doc, origin)
+            store.change(alloc, Kind::Remove, doc, origin)
         }
         Command::Query(text) => store.query(alloc, text.items()),
         Command::QueryFile(name) => store.query_document(alloc, document_in(docs, name, &missing)),

@@ -1,15 +1,16 @@
 //! Reading whole documents from a shelf.
 ghost use Rattle.std.specs.Prelude.{◌≡◌, ℕ, ◌+◌, ◌≤◌, ◌<◌, ◌^◌, Option, List as Items, [], IfOk, IfSome, IfNone, IsErrOf, IsTrue, false, vec_len, MatchOption};
-ghost use Rattle.work_text.specs.Outside.{HasRisen, IsDocOf, IsWithin};
+ghost use Rattle.base_core.specs.Faults.{HasRisen};
+ghost use Rattle.work_text.specs.Outside.{IsDocOf, IsWithin};
 ghost use Rattle.bigfed.specs.Documents.{docs_of, AreGathered};
 ghost use Rattle.bigfed.specs.Program.{AreDocuments, IsNamed, name_of, size_of, total, with_document, with_lines};
 ghost use Rattle.bigfed.specs.Names.{with_name};
-ghost use Rattle.bigfed.specs.Reading.{IsPartly, GoesOn};
+ghost use Rattle.bigfed.specs.Reading.{IsPartly, DocumentGoesOn};
 ghost use Rattle.bigfed.specs.declared.shelf.ShelfFault.TheVariants.{NoMemory, Failed as Fails};
 
+use base_core::{List, Text, Want};
 use std::alloc::{AllocError, AllocFailed, Global};
 use std::collections::BTreeMap;
-use term_core::{List, Text, Want};
 use work_text::{Command, Doc, Failed, Line, Shelf, Work};
 
 /// How many bytes a document may have.
@@ -108,7 +109,7 @@ fn read_chunk<S: Shelf>(
     requires { 0 < vec_len buffer.old }
     ensures read { (told : Option (Items (Items ℕ × Items ℕ))) → (name : Items ℕ) →
         IsPartly told name bytes.old.items (S.left shelf.old) →
-        IfOk result (λ more. GoesOn more told name bytes.new.items (S.left shelf.new)) }
+        IfOk result (λ more. DocumentGoesOn more told name bytes.new.items (S.left shelf.new)) }
     ensures longer { IfOk result (λ more. IsTrue more → vec_len bytes.old < vec_len bytes.new) }
     ensures stays { IfOk result (λ more. more ≡ false → bytes.new.items ≡ bytes.old.items) }
     ensures room { 0 < vec_len buffer.new }

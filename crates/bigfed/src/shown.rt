@@ -1,17 +1,17 @@
 //! The ids of the keys of a span that have a value.
 ghost use Rattle.std.specs.Prelude.{◌≡◌, ◌↔◌, ◌≤◌, ◌⊎◌, Some, IfOk, OnOk, IsTrue};
-ghost use Rattle.term_core.specs.Lists.{Has, AreDistinct};
+ghost use Rattle.base_core.specs.Lists.{Has, AreDistinct};
 ghost use Rattle.triple_keys.specs.declared.key.Ids.{Ids as TheIds};
 ghost use Rattle.window_core.specs.Rows.{StandInOrder, IsChunk};
 ghost use Rattle.window_core.specs.Windows.{IsOnward};
 ghost use Rattle.change_model.specs.Laws.{IsValue};
 ghost use Rattle.bigfed.specs.Indexed.{rows_in, IsShownIn};
-ghost use Rattle.bigfed.specs.Shown.{IsKept, GoesOn, firsts};
+ghost use Rattle.bigfed.specs.Shown.{IsKept, SpanGoesOn, firsts};
 
+use base_core::Want;
 use disk_core::NoDisk;
 use fed_bytes::{Key, Span};
 use std::alloc::Global;
-use term_core::Want;
 use triple_keys::{Ids, Order, ids_of};
 use window_core::{Cell, Chunk, LiveWindow, Row, Rows, Window};
 
@@ -70,7 +70,7 @@ fn chunk_from(alloc: Global, window: &LiveWindow, key: &[u8], most: u32) -> Resu
 
 /// The key, if it is in the span.
 fn in_span(span: &Span, key: Option<Key>) -> Option<Key>
-    ensures { GoesOn span.now key result }
+    ensures { SpanGoesOn span.now key result }
 {
     match key {
         None => None,

@@ -4,16 +4,16 @@ ghost use Rattle.std.specs.List.{AllByRecursion};
 ghost use Rattle.term_core.specs.Term.{IsStatement};
 ghost use Rattle.change_model.specs.History.{History};
 ghost use Rattle.work_text.specs.Outside.{IsWithin};
-ghost use Rattle.bigfed.specs.Legal.{LoadStep, UnloadStep, QueryStep, QueryFileStep, refusal_of, query_refusal_of, column_names};
+ghost use Rattle.bigfed.specs.Legal.{ChangeStep, QueryStep, QueryFileStep, refusal_of, refused_label, query_refusal_of, column_names};
 
 use crate::indexes::Indexes;
 use crate::solve::solve;
+use base_core::{List, Text, Want};
 use bgp_model::{BgpFault, Query};
 use change_model::{Change, Kind, Origin, entry_of};
 use nt_text::{DocFault, read_document};
 use query_text::{QueryFault, read_query};
 use std::alloc::Global;
-use term_core::{List, Text, Want};
 use work_text::{Doc, Outcome};
 
 /// A query's text may be this long.
@@ -30,11 +30,11 @@ pub struct Store {
 }
 
 impl Store {
-    ghost use Rattle.bigfed.specs.Standing.{StandsFor};
+    ghost use Rattle.bigfed.specs.Standing.{StoreStandsFor};
 
     /// The store without a change.
     pub fn new(alloc: Global) -> Result<Store, Want>
-        ensures { IfOk result (λ store. StandsFor store []) }
+        ensures { IfOk result (λ store. StoreStandsFor store []) }
     {
         Ok(Store {
             indexes: Indexes::new(alloc)?,
@@ -49,13 +49,20 @@ impl Store {
         self.origins
     }
 
-    /// Puts the statements of a document in as one change, or refuses it whole. After an `Err` the store stands for no
-    /// history any more.
-    pub fn load(&mut self, alloc: Global, doc: &Doc, origin: Origin) -> Result<Outcome, Want>
+    /// Commits the statements of a document as one change of this kind, or refuses it whole. A document whose statements
+    /// are to be taken out may have no blank node, which would be one of this very change. After an `Err` the store
+    /// stands for no history any more.
+    pub fn change(
+        &mut self,
+        alloc: Global,
+        kind: Kind,
+        doc: &Doc,
+        origin: Origin,
+    ) -> Result<Outcome, Want>
         requires within { IsWithin 33554432 doc.now }
-        requires standing { (history : History) × StandsFor self.old history }
-        ensures step { (history : History) → StandsFor self.old history → IfOk result (λ outcome.
-            (after : History) × LoadStep doc.now origin history outcome after × StandsFor self.new after) }
+        requires standing { (history : History) × StoreStandsFor self.old history }
+        ensures step { (history : History) → StoreStandsFor self.old history → IfOk result (λ outcome.
+            (after : History) × ChangeStep kind doc.now origin history outcome after × StoreStandsFor self.new after) }
         ensures commits { OnOk result (length self.new.origins ≤ length self.old.origins + 1) }
     {
         let bytes = match doc {
@@ -67,36 +74,11 @@ impl Store {
             Ok(document) => document,
             Err(fault) => return refusal(fault),
         };
-        let change = Change {
-            kind: Kind::Add,
-            statements: document.statements,
-        };
-        self.commit(alloc, change, origin)
-    }
-
-    /// Takes the statements of a document out as one change, or refuses it whole: it may have no blank node, which would
-    /// be one of this very change. After an `Err` the store stands for no history any more.
-    pub fn unload(&mut self, alloc: Global, doc: &Doc, origin: Origin) -> Result<Outcome, Want>
-        requires within { IsWithin 33554432 doc.now }
-        requires standing { (history : History) × StandsFor self.old history }
-        ensures step { (history : History) → StandsFor self.old history → IfOk result (λ outcome.
-            (after : History) × UnloadStep doc.now origin history outcome after × StandsFor self.new after) }
-        ensures commits { OnOk result (length self.new.origins ≤ length self.old.origins + 1) }
-    {
-        let bytes = match doc {
-            Doc::Missing => return Ok(Outcome::NoDocument),
-            Doc::TooLarge => return Ok(Outcome::DocumentTooLarge),
-            Doc::Bytes(bytes) => bytes,
-        };
-        let document = match read_document(alloc, bytes.items()) {
-            Ok(document) => document,
-            Err(fault) => return refusal(fault),
-        };
-        if let Some(line) = document.first_label {
+        if let Some(line) = refused_label(kind, document.first_label) {
             return Ok(Outcome::LabelInRemoval { line });
         }
         let change = Change {
-            kind: Kind::Remove,
+            kind,
             statements: document.statements,
         };
         self.commit(alloc, change, origin)
@@ -105,10 +87,10 @@ impl Store {
     /// Commits a change. Its labels are bound to its time.
     fn commit(&mut self, alloc: Global, change: Change, origin: Origin) -> Result<Outcome, Want>
         requires statements { AllByRecursion IsStatement change.statements }
-        requires standing { (history : History) × StandsFor self.old history }
+        requires standing { (history : History) × StoreStandsFor self.old history }
         ensures time { IfOk result (λ outcome. outcome ≡ Outcome.Changed (length self.old.origins + 1)) }
-        ensures stands { (history : History) → StandsFor self.old history
-            → OnOk result (StandsFor self.new (history ++ record { change = change; origin = origin } ∷ [])) }
+        ensures stands { (history : History) → StoreStandsFor self.old history
+            → OnOk result (StoreStandsFor self.new (history ++ record { change = change; origin = origin } ∷ [])) }
         ensures commits { OnOk result (length self.new.origins ≡ length self.old.origins + 1) }
     {
         let time = self.next_time(change.statements.items().len())?;
@@ -140,7 +122,7 @@ impl Store {
 
     /// Answers the query that is a document.
     pub fn query_document(&self, alloc: Global, doc: &Doc) -> Result<Outcome, Want>
-        ensures { (history : History) → StandsFor self.now history → IfOk result (QueryFileStep doc.now history) }
+        ensures { (history : History) → StoreStandsFor self.now history → IfOk result (QueryFileStep doc.now history) }
     {
         match doc {
             Doc::Missing => Ok(Outcome::NoDocument),
@@ -151,7 +133,7 @@ impl Store {
 
     /// Answers a query over the triples that all changes so far left.
     pub fn query(&self, alloc: Global, text: &[u8]) -> Result<Outcome, Want>
-        ensures { (history : History) → StandsFor self.now history → IfOk result (QueryStep text.now history) }
+        ensures { (history : History) → StoreStandsFor self.now history → IfOk result (QueryStep text.now history) }
     {
         if text.len() > MOST_QUERY_BYTES {
             return Ok(Outcome::DocumentTooLarge);
@@ -170,6 +152,16 @@ impl Store {
             Err(BgpFault::TooMany) => Ok(Outcome::TooManyRows { time }),
             Err(BgpFault::NoMemory) => Err(Want::NoMemory),
         }
+    }
+}
+
+/// The line of the first blank node, where a change of this kind may have none.
+fn refused_label(kind: Kind, first_label: Option<u32>) -> Option<u32>
+    ensures { result ≡ refused_label kind first_label }
+{
+    match kind {
+        Kind::Add => None,
+        Kind::Remove => first_label,
     }
 }
 

@@ -1,9 +1,9 @@
 //! The program over memory forms, with ample memory.
 use super::*;
+use base_core::{List, Text};
 use std::alloc::Global;
 use std::process::Abort;
 use std::test::Fail;
-use term_core::{List, Text};
 use work_text::{MemoryShelf, MemorySink};
 
 const PLAIN: &str = "<http://e/a> <http://e/p> <http://e/b> .\n";

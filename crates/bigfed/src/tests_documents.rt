@@ -2,10 +2,10 @@
 ghost use Rattle.std.specs.Prelude.{None};
 
 use super::*;
+use base_core::{List, Text};
 use std::alloc::Global;
 use std::process::Abort;
 use std::test::Fail;
-use term_core::{List, Text};
 use work_text::{Failed, MemoryShelf, MemorySink, Shelf};
 
 const A: &str = "<http://e/a> <http://e/p> <http://e/b> .\n";

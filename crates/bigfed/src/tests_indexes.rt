@@ -1,8 +1,8 @@
 //! Loads and queries over the five indexes.
 use crate::tests::{expect, expect_run};
+use base_core::{List, Text};
 use std::process::Abort;
 use std::test::Fail;
-use term_core::{List, Text};
 use work_text::MemoryShelf;
 
 const THREE: &str =

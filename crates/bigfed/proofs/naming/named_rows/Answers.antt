@@ -1,16 +1,18 @@
-use Rattle.std.proofs.Common.{length, [], ◌∷◌, ap, ◌∙◌, arith, length-append}
-use Rattle.bigfed.specs.Solving.{row_at}
-use Rattle.bigfed.proofs.Known.{made_more}
+use Rattle.std.proofs.Common.{◌∙◌, ap, map}
+use Rattle.bigfed.specs.Naming.{seat_at}
+use Rattle.bigfed.proofs.Seats.{table_named, table_kept, table_long}
 use Rattle.bigfed.proofs.naming.named_rows.Goals as goal
 
-pub rows-preserved : goal.rows-preserved
-rows-preserved c = record {
-  made = λ history are.
-      made_more (row_at history) c.args.rows.now c.rows.row-index c.row-item.result c.rows.made.items c.push.new.self.items c.in_ok-named_row.field-0 c.rows-test.true
-      (c.rows.invariant.made history are) c.in_ok-push.ensures.items
-      (c.in_ok-named_row.ensures.named history are (c.rows.invariant.known history are) ∙ ap (row_at history) (c.items.ensures ∙ c.row-item.is));
-  one_each =
-      let long = ap length c.in_ok-push.ensures.items ∙ length-append c.rows.made.items (c.in_ok-named_row.field-0 ∷ []) in
-      let before = c.rows.invariant.one_each in omega arith;
-  known = λ history are. c.in_ok-named_row.ensures.known history are (c.rows.invariant.known history are);
-}
+pub returns-clause-named : goal.returns-clause-named
+returns-clause-named c history are =
+    let named = c.in_ok-named.named in
+    table_named history named c.places_of.new.distinct.keys c.args.rows.now c.cells.result.now c.in_ok-places.places.items c.in_ok-cells.cells.items c.columns.result c.len.result
+    c.of-2.result c.of-2.ensures (c.in_ok-named.ensures.seats history are) c.in_ok-places.ensures
+    (c.in_ok-cells.ensures ∙ ap (λ seats. map (seat_at seats) c.deref.result.now) c.as_slice.ensures.value ∙ ap (map (seat_at named.seats.items)) c.deref.ensures.value)
+    c.len.ensures (c.cells.ensures c.columns.result c.columns.ensures)
+
+pub returns-clause-terms : goal.returns-clause-terms
+returns-clause-terms c = table_kept c.in_ok-named.named.terms.items c.columns.result c.len.result c.in_ok-cells.cells.items c.of-2.result c.of-2.ensures c.in_ok-named.ensures.terms
+
+pub returns-clause-one_each : goal.returns-clause-one_each
+returns-clause-one_each c = table_long c.in_ok-named.named.terms.items c.columns.result c.len.result _ c.in_ok-cells.cells.items c.of-2.result c.of-2.ensures c.len.ensures

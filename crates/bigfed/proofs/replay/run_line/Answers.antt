@@ -1,9 +1,10 @@
 use Rattle.std.proofs.Common.{IfOk, subst}
 use Rattle.work_text.specs.declared.docs.Doc.{Doc}
+use Rattle.change_model.specs.declared.history.Kind.TheVariants.{Add, Remove}
 use Rattle.change_model.specs.declared.history.Origin.{Origin}
 use Rattle.change_model.specs.History.{History}
-use Rattle.bigfed.specs.Legal.{LoadStep, UnloadStep, QueryFileStep}
-use Rattle.bigfed.specs.Standing.{StandsFor}
+use Rattle.bigfed.specs.Legal.{ChangeStep, QueryFileStep}
+use Rattle.bigfed.specs.Standing.{StoreStandsFor}
 use Rattle.bigfed.specs.Documents.{docs_of}
 use Rattle.bigfed.proofs.Steps.{asked, document_asked}
 use Rattle.bigfed.proofs.replay.run_line.Goals as goal
@@ -11,14 +12,14 @@ use Rattle.bigfed.proofs.replay.run_line.Goals as goal
 pub returns-in-Load-clause-step : goal.returns-in-Load-clause-step
 returns-in-Load-clause-step c history stands =
     let origin : Origin = record { session = c.args.line.now.session; command = c.args.place } in
-    rw c.in-Load.is (subst (λ (d : Doc). IfOk c.load.result (λ outcome. (after : History) × LoadStep d origin history outcome after × StandsFor c.load.new.self after))
-    c.document_in-doc.ensures (c.load.ensures.step history stands))
+    rw c.in-Load.is (subst (λ (d : Doc). IfOk c.change.result (λ outcome. (after : History) × ChangeStep Add d origin history outcome after × StoreStandsFor c.change.new.self after))
+    c.document_in-doc.ensures (c.change.ensures.step history stands))
 
 pub returns-in-Unload-clause-step : goal.returns-in-Unload-clause-step
 returns-in-Unload-clause-step c history stands =
     let origin : Origin = record { session = c.args.line.now.session; command = c.args.place } in
-    rw c.in-Unload.is (subst (λ (d : Doc). IfOk c.unload.result (λ outcome. (after : History) × UnloadStep d origin history outcome after × StandsFor c.unload.new.self after))
-    c.document_in-doc-in-Unload.ensures (c.unload.ensures.step history stands))
+    rw c.in-Unload.is (subst (λ (d : Doc). IfOk c.change-in-Unload.result (λ outcome. (after : History) × ChangeStep Remove d origin history outcome after × StoreStandsFor c.change-in-Unload.new.self after))
+    c.document_in-doc-in-Unload.ensures (c.change-in-Unload.ensures.step history stands))
 
 pub returns-in-Query-clause-step : goal.returns-in-Query-clause-step
 returns-in-Query-clause-step c history stands =

@@ -1,5 +1,5 @@
 use Rattle.std.proofs.Common.{take}
-use Rattle.term_core.specs.Lists.{Has, AreDistinct}
+use Rattle.base_core.specs.Lists.{Has, AreDistinct}
 use Rattle.triple_keys.specs.declared.key.Ids.{Ids}
 use Rattle.bigfed.specs.Indexed.{IsShownIn}
 use Rattle.bigfed.specs.Shown.{IsKept}

@@ -1,5 +1,5 @@
 use Rattle.std.proofs.Common.{◌≤◌}
-use Rattle.term_core.specs.Lists.{AreDistinct}
+use Rattle.base_core.specs.Lists.{AreDistinct}
 use Rattle.bigfed.specs.Indexed.{rows_in}
 use Rattle.bigfed.proofs.Chunks.{AreShown, IsFromLeft, left_from}
 use Rattle.bigfed.proofs.shown.shown_ids.Given as goal

@@ -16,5 +16,5 @@ pieces-preserved g c =
         inv.0.1 ∙ ap (λ behind. inv.0.0 ++ behind) (sym cut) ∙ sym (append_assoc inv.0.0 front rest),
         IsTaken-more _ _ _ inv.0.0 front inv.0.2 took,
       ),
-      omega (arith, c.write.ensures.counted.later),
+      c.in_ok-n.ensures.kept ∙ inv.1,
     )

@@ -1,5 +1,5 @@
 use Rattle.std.proofs.Common.{◌↔◌, sym, subst}
-use Rattle.term_core.specs.Lists.{Has}
+use Rattle.base_core.specs.Lists.{Has}
 use Rattle.triple_keys.specs.declared.key.Ids.{Ids}
 use Rattle.join_core.specs.Asking.{Agrees}
 use Rattle.bigfed.specs.Indexed.{IsShownIn, rows_in}
