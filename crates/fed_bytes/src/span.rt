@@ -1,5 +1,5 @@
 //! Half open spans of keys.
-ghost use Rattle.std.specs.Prelude.{◌≡◌, ◌↔◌, IsTrue, IfOk, IfSome, MatchOption};
+ghost use Rattle.std.specs.Prelude.{◌≡◌, ◌↔◌, ℕ, List, IsTrue, false, IfOk, IfSome, MatchOption};
 ghost use Rattle.std.specs.Ordering.{is_lt, is_le, nat_cmp};
 ghost use Rattle.std.specs.Cmp.Lexicographic.{slice_cmp};
 ghost use Rattle.fed_bytes.specs.Keys.{IsIn, IsBeforeEnd, AreApart, IsMeeting, IsPrefixSpan};
@@ -36,6 +36,16 @@ impl Span {
         let left = left.copy(alloc)?;
         let right = copy_end(alloc, right)?;
         Ok(Some(Span { left, right }))
+    }
+
+    /// Whether some key is in both.
+    pub fn overlaps(&self, other: &Span) -> bool
+        ensures shared { IsTrue result → (key : List ℕ) × IsIn self.now key × IsIn other.now key }
+        ensures apart { result ≡ false → AreApart self.now other.now }
+    {
+        let left = later_of(&self.left, &other.left);
+        let end = earlier_of(&self.right, &other.right);
+        is_before_end(left.bytes(), end)
     }
 
     /// The span of the keys that begin with these bytes.

@@ -29,6 +29,8 @@ fn spans_meet_where_both_have_keys(rt: HostRuntime) -> Result<(), Fail> {
     let inner = Span::of_prefix(rt.alloc(), b"ab")?;
     let next = Span::of_prefix(rt.alloc(), b"b")?;
     assert!(rt; one.meet(rt.alloc(), &next)?.is_none());
+    assert!(rt; !one.overlaps(&next) && !next.overlaps(&one));
+    assert!(rt; one.overlaps(&inner) && inner.overlaps(&one));
     let Some(both) = one.meet(rt.alloc(), &inner)? else {
         panic!(rt; "they meet");
     };
