@@ -19,7 +19,7 @@ pub use caller::first_at;
 pub use fault::WindowFault;
 pub use frozen::FrozenWindow;
 pub use live::LiveWindow;
-pub use rows::{Cell, Chunk, Index, Row, Rows};
+pub use rows::{Cell, Chunk, Index, Reply, Row, Rows};
 pub use window::Window;
 
 #[cfg(test)]

@@ -2,7 +2,7 @@
 ghost use Rattle.std.specs.Prelude.{◌≡◌, IfOk};
 
 use base_core::Want;
-use fed_bytes::Key;
+use fed_bytes::{Key, Span};
 use std::alloc::Global;
 use std::marker::Model;
 
@@ -100,4 +100,12 @@ impl Rows {
 pub struct Chunk {
     pub rows: Rows,
     pub next: Option<Key>,
+}
+
+/// What a shard answers of a span that it was asked for: the keys of both spans, and what it has of them.
+#[derive(Debug, Drop)]
+pub struct Reply {
+    /// The keys that are in the span that was asked for and in the shard's own.
+    pub part: Span,
+    pub chunk: Chunk,
 }
