@@ -5,6 +5,7 @@ ghost use Rattle.term_core.specs.Term.{IsStatement};
 ghost use Rattle.change_model.specs.History.{History};
 ghost use Rattle.work_text.specs.Outside.{IsWithin};
 ghost use Rattle.bigfed.specs.Legal.{ChangeStep, QueryStep, QueryFileStep, refusal_of, refused_label, query_refusal_of, column_names};
+ghost use Rattle.nt_text.specs.Limits.{largest_document};
 
 use crate::indexes::Indexes;
 use crate::solve::solve;
@@ -59,7 +60,7 @@ impl Store {
         doc: &Doc,
         origin: Origin,
     ) -> Result<Outcome, Want>
-        requires within { IsWithin 33554432 doc.now }
+        requires within { IsWithin largest_document doc.now }
         requires standing { (history : History) × StoreStandsFor self.old history }
         ensures step { (history : History) → StoreStandsFor self.old history → IfOk result (λ outcome.
             (after : History) × ChangeStep kind doc.now origin history outcome after × StoreStandsFor self.new after) }
@@ -95,7 +96,8 @@ impl Store {
     {
         let time = self.next_time(change.statements.items().len())?;
         let resolved = self.indexes.resolve(alloc, change)?;
-        let entry = entry_of(alloc, &resolved, self.indexes.terms(), time)?;
+        let later = List::of(Vec::new(alloc));
+        let entry = entry_of(alloc, &resolved, &later, self.indexes.terms(), time)?;
         self.indexes.add(alloc, &entry)?;
         self.origins.append(List::of(vec![in alloc; origin]?))?;
         Ok(Outcome::Changed { time })

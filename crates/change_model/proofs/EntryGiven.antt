@@ -16,7 +16,7 @@ use Rattle.change_model.specs.declared.numbering.NewTerm.{NewTerm}
 use Rattle.change_model.specs.declared.vocabulary.Vocabulary.{Vocabulary}
 use Rattle.change_model.specs.History.{bound_term}
 use Rattle.change_model.specs.Lexicon.{with_term, with_terms, brought}
-use Rattle.change_model.specs.Numbering.{HasIdIn, IsIdIn, IsBase, BindWell, AreIdsIn, AreIdsAt, AreSpelled, IsNumbering, IsUnlabelled, IsNext, IsGiving, IsGiven, known_id, known_ids}
+use Rattle.change_model.specs.Numbering.{HasIdIn, IsIdIn, IsBase, BindWell, AreIdsIn, AreIdsAt, AreSpelled, IsNumbering, IsUnlabelled, IsNext, IsGiving, IsGiven}
 use Rattle.change_model.proofs.Lexicons.{AreWith-all}
 use Rattle.change_model.proofs.Members.{Has-append, Has-from_map}
 use Rattle.change_model.proofs.VocabularyTerms.{with_terms-append}
@@ -46,37 +46,6 @@ pub place_below : {A : Type 0} (xs : List A) (k : ℕ) (y : A) → slice_get xs 
 place_below [] k y e = absurd (none-some y e)
 place_below (x ∷ xs) zero y e = omega arith
 place_below (x ∷ xs) (suc k) y e = omega (arith, place_below xs k y e)
-
--- the ids that are known before the labels are bound
-
-known_one : (base : List Term) (time : ℕ) → ((label : List ℕ) → Has base (Blank time label) → ⊥) → (term : Term) (id : Option ℕ)
-    → IsIdIn base term id → IsIdIn base (bound_term time term) (known_id term id)
-known_one base time earlier (Iri iri) id is = is
-known_one base time earlier (Literal form datatype) id is = is
-known_one base time earlier (Tagged form tag) id is = is
-known_one base time earlier (Blank at label) id is = λ n has. earlier label (stands base (Blank time label) n has)
-
-pub known_all : (base : List Term) (time : ℕ) → ((label : List ℕ) → Has base (Blank time label) → ⊥) → (terms : List Term) (ids : List (Option ℕ))
-    → AreIdsIn base terms ids → AreIdsAt time base terms (known_ids terms ids)
-known_all base time earlier [] [] are = tt
-known_all base time earlier [] (id ∷ ids) are = absurd are
-known_all base time earlier (term ∷ terms) [] are = absurd are
-known_all base time earlier (term ∷ terms) (id ∷ ids) are = (known_one base time earlier term id are.0, known_all base time earlier terms ids are.1)
-
-known_push : (terms : List Term) (term : Term) (ids : List (Option ℕ)) → known_ids (terms ++ (term ∷ [])) ids ≡ known_ids terms ids ++ (known_id term (get_or ids (length terms) None) ∷ [])
-known_push [] term [] = refl
-known_push [] term (id ∷ ids) = refl
-known_push (first ∷ terms) term [] = ap (λ rest. known_id first None ∷ rest) (known_push terms term [])
-known_push (first ∷ terms) term (id ∷ ids) = ap (λ rest. known_id first id ∷ rest) (known_push terms term ids)
-
-pub known_more : (terms : List Term) (ids : List (Option ℕ)) (i : ℕ) (term : Term) (old new : List (Option ℕ)) (id one : Option ℕ)
-    → i < length terms → term ≡ get_or terms i term → old ≡ known_ids (take i terms) ids → id ≡ get_or ids i None → one ≡ known_id term id → new ≡ old ++ (one ∷ [])
-    → new ≡ known_ids (take (i + 1) terms) ids
-known_more terms ids i term old new id one below is so_far at answer pushed =
-    let more : take (i + 1) terms ≡ take i terms ++ (term ∷ []) = take_more terms i term below ∙ ap (λ t. take i terms ++ (t ∷ [])) (sym is) in
-    let long : length (take i terms) ≡ i = length-take-le i terms (omega arith) in
-    let last : one ≡ known_id term (get_or ids (length (take i terms)) None) = answer ∙ ap (known_id term) at ∙ ap (λ n. known_id term (get_or ids n None)) (sym long) in
-    pushed ∙ ap (λ ks. ks ++ (one ∷ [])) so_far ∙ ap (λ o. known_ids (take i terms) ids ++ (o ∷ [])) last ∙ sym (known_push (take i terms) term ids) ∙ ap (λ ts. known_ids ts ids) (sym more)
 
 -- no term is brought yet
 pub numbering_base : (base : List Term) (number time : ℕ) (brought : List NewTerm) → IsBase base number time → brought ≡ [] → IsNumbering base base number brought
@@ -123,6 +92,13 @@ pub next_id : (time : ℕ) (base terms : List Term) (ids : List (Option ℕ)) (i
 next_id time base terms ids i term id are below is at =
     let here = zip_at (λ t o. IsIdIn base (bound_term time t) o) terms ids i term None are below in
     subst (IsIdIn base (bound_term time term)) (sym at) (subst (λ (t : Term). IsIdIn base (bound_term time t) (get_or ids i None)) (sym is) here)
+
+-- the id of the next term as it stands
+pub next_known : (early terms : List Term) (ids : List (Option ℕ)) (i : ℕ) (term : Term) (id : Option ℕ) → AreIdsIn early terms ids → i < length terms → term ≡ get_or terms i term
+    → id ≡ get_or ids i None → IsIdIn early term id
+next_known early terms ids i term id are below is at =
+    let here = zip_at (λ t o. IsIdIn early t o) terms ids i term None are below in
+    subst (IsIdIn early term) (sym at) (subst (λ (t : Term). IsIdIn early t (get_or ids i None)) (sym is) here)
 
 -- a distinct list has an element nowhere in front of it
 not_in_front : {A : Type 0} → (xs : List A) (y : A) → AreDistinct (xs ++ (y ∷ [])) → Has xs y → ⊥
@@ -207,23 +183,21 @@ have_all base time terms i given number brought nodes end have =
     )
 
 -- an Add gives ids by the ones that are known already
-pub add_tells : (C : List Term → List Term → Type 0) (kind : Kind) (count time : ℕ) (vocabulary : Vocabulary) (ids given : List (Option ℕ))
-    → kind ≡ Add → given ≡ known_ids vocabulary.terms ids
+pub add_tells : (C : List Term → List Term → Type 0) (kind : Kind) (count time : ℕ) (vocabulary : Vocabulary) (known given : List (Option ℕ))
+    → kind ≡ Add → given ≡ known
     → ((base : List Term) → IsBase base count time → AreSpelled vocabulary → BindWell time vocabulary.terms → AreIdsAt time base vocabulary.terms given → C base (with_terms base (map (bound_term time) vocabulary.terms)))
-    → (base : List Term) → IsBase base count time → AreSpelled vocabulary → BindWell time vocabulary.terms → AreIdsIn base vocabulary.terms ids
+    → (base : List Term) → IsBase base count time → AreSpelled vocabulary → BindWell time vocabulary.terms → AreIdsAt time base vocabulary.terms known
     → C base (with_terms base (brought kind (map (bound_term time) vocabulary.terms)))
-add_tells C kind count time vocabulary ids given add gives tells base base_is spelled bind are =
+add_tells C kind count time vocabulary known given add gives tells base base_is spelled bind are =
     let f = bound_term time in
-    let all : AreIdsAt time base vocabulary.terms given = subst (AreIdsAt time base vocabulary.terms) (sym gives) (known_all base time base_is.earlier vocabulary.terms ids are) in
+    let all : AreIdsAt time base vocabulary.terms given = subst (AreIdsAt time base vocabulary.terms) (sym gives) are in
     subst (λ (k : Kind). C base (with_terms base (brought k (map f vocabulary.terms)))) (sym add) (tells base base_is spelled bind all)
 
 -- a Remove gives none
-pub remove_ids : (kind : Kind) (count time : ℕ) (terms : List Term) (ids given : List (Option ℕ))
-    → kind ≡ Remove → given ≡ known_ids terms ids
-    → (base : List Term) → IsBase base count time → AreIdsIn base terms ids → AreIdsAt time (with_terms base (brought kind (map (bound_term time) terms))) terms given
-remove_ids kind count time terms ids given remove gives base base_is are =
-    let all : AreIdsAt time base terms given = subst (AreIdsAt time base terms) (sym gives) (known_all base time base_is.earlier terms ids are) in
-    subst (λ (k : Kind). AreIdsAt time (with_terms base (brought k (map (bound_term time) terms))) terms given) (sym remove) all
+pub remove_ids : (kind : Kind) (time : ℕ) (terms : List Term) (known : List (Option ℕ)) → kind ≡ Remove
+    → (base : List Term) → AreIdsAt time base terms known → AreIdsAt time (with_terms base (brought kind (map (bound_term time) terms))) terms known
+remove_ids kind time terms known remove base are =
+    subst (λ (k : Kind). AreIdsAt time (with_terms base (brought k (map (bound_term time) terms))) terms known) (sym remove) are
 
 pub remove_numbering : (kind : Kind) (count time : ℕ) (terms : List Term) (entries : List NewTerm) → kind ≡ Remove → entries ≡ []
     → (base : List Term) → IsBase base count time → IsNumbering base (with_terms base (brought kind (map (bound_term time) terms))) count entries

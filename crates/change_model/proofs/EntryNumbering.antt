@@ -31,7 +31,7 @@ front_place [] ys y place e = inr (omega arith)
 front_place (x ∷ xs) ys y zero e = inl e
 front_place (x ∷ xs) ys y (suc place) e = elim (front_place xs ys y place e) [ inl before ↦ inl before | inr behind ↦ inr (omega (arith, behind)) ]
 
-each_push : {A : Type 0} (P : A → Type 0) (xs : List A) (x : A) → AllByRecursion P xs → P x → AllByRecursion P (xs ++ (x ∷ []))
+pub each_push : {A : Type 0} (P : A → Type 0) (xs : List A) (x : A) → AllByRecursion P xs → P x → AllByRecursion P (xs ++ (x ∷ []))
 each_push P [] x all here = (here, tt)
 each_push P (first ∷ xs) x all here = (all.0, each_push P xs x all.1 here)
 
@@ -42,7 +42,8 @@ stands known term id has = at_place known has.0 term has.1
 pub HasIdIn-grown : (known : List Term) (more term : Term) (id : ℕ) → HasIdIn known term id → HasIdIn (with_term known more) term id
 HasIdIn-grown known more term id has = (has.0, with_term-keeps known more has.0 term has.1, has.2)
 
-from_base : (base known : List Term) (term : Term) (id : ℕ) → (new : List Term) × (known ≡ base ++ new) → HasIdIn base term id → HasIdIn known term id
+-- a term keeps its id where more terms are known
+pub from_base : (base known : List Term) (term : Term) (id : ℕ) → (new : List Term) × (known ≡ base ++ new) → HasIdIn base term id → HasIdIn known term id
 from_base base known term id grown has =
     (has.0, subst (λ (ts : List Term). slice_get ts has.0 ≡ Some term) (sym grown.1) (grown_place base grown.0 has.0 term has.1), has.2)
 
@@ -148,7 +149,7 @@ other_id known term q None apart none = λ id has.
     elim (last_place known term q has.0 has.1) [ inl before ↦ none id (has.0, before, has.2) | inr last ↦ apart last.1 ]
 other_id known term q (Some id) apart has = (has.0, grown_place known (term ∷ []) has.0 q has.1, has.2)
 
-unlabelled_is : (time : ℕ) (term : Term) → IsUnlabelled term → bound_term time term ≡ term
+pub unlabelled_is : (time : ℕ) (term : Term) → IsUnlabelled term → bound_term time term ≡ term
 unlabelled_is time (Iri iri) plain = refl
 unlabelled_is time (Literal form datatype) plain = refl
 unlabelled_is time (Tagged form tag) plain = refl

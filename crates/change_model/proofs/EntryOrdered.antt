@@ -136,14 +136,36 @@ map_itself : (rows : List Row) → map (λ row. row) rows ≡ rows
 map_itself [] = refl
 map_itself (row ∷ rows) = ap (λ rest. row ∷ rest) (map_itself rows)
 
-pub sorted_rows : (given sorted made : List Row) → IsPermutation given sorted → IsSorted (by_key (λ (r : Row). r.key)) sorted → made ≡ sorted → HaveOwnKeys given → AreOrdered made given
-sorted_rows given sorted made moved up is own =
+-- rows that were sorted by key, one of each key
+pub record AreOneOfEach (given sorted once made : List Row) : Type 0 where
+  pub moved : IsPermutation given sorted
+  pub up : IsSorted (by_key (λ (r : Row). r.key)) sorted
+  pub once_is : once ≡ dedup (one_key (λ (r : Row). r.key)) sorted
+  pub made_is : made ≡ once
+
+made_each : (given sorted once made : List Row) → AreOneOfEach given sorted once made → made ≡ dedup (one_key (λ (r : Row). r.key)) sorted
+made_each given sorted once made are = are.made_is ∙ are.once_is
+
+pub each_order : (given sorted once made : List Row) → AreOneOfEach given sorted once made → StandInOrder made
+each_order given sorted once made are =
     let key = λ (r : Row). r.key in
-    let apart : IsDistinct (one_key key) sorted = IsDistinct-IsPermutation (one_key key) (λ x y. (equiv key).symm x y) given sorted moved (own_distinct given own) in
-    let order : StandInOrder sorted = subst StandInOrder (map_itself sorted) (strict_order key (λ row. row) (λ row. refl) sorted (strictly key sorted up apart)) in
+    let rows = dedup (one_key key) sorted in
+    let strict = IsStrictlySortedBy-dedup (total key) (λ x y. refl) sorted are.up in
+    subst StandInOrder (sym (made_each given sorted once made are)) (subst StandInOrder (map_itself rows) (strict_order key (λ row. row) (λ row. refl) rows strict))
+
+pub each_kept : (given sorted once made : List Row) → AreOneOfEach given sorted once made → (row : Row) → Has made row → Has given row
+each_kept given sorted once made are row h =
+    moved_has given sorted are.moved row (dedup_has (λ (r : Row). r.key) sorted row (subst (λ (rs : List Row). Has rs row) (made_each given sorted once made are) h))
+
+-- none is lost where each has a key of its own
+pub each_ordered : (given sorted once made : List Row) → AreOneOfEach given sorted once made → HaveOwnKeys given → AreOrdered made given
+each_ordered given sorted once made are own =
+    let key = λ (r : Row). r.key in
+    let apart : IsDistinct (one_key key) sorted = IsDistinct-IsPermutation (one_key key) (λ x y. (equiv key).symm x y) given sorted are.moved (own_distinct given own) in
+    let all : made ≡ sorted = made_each given sorted once made are ∙ kept key sorted apart in
     record {
-      order = subst StandInOrder (sym is) order;
-      same = λ row. subst (λ (rs : List Row). Has rs row ↔ Has given row) (sym is) (moved_same given sorted moved row);
+      order = each_order given sorted once made are;
+      same = λ row. subst (λ (rs : List Row). Has rs row ↔ Has given row) (sym all) (moved_same given sorted are.moved row);
     }
 
 -- ---- the rows of statements

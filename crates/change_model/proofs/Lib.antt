@@ -1,13 +1,17 @@
 pub mod AdjacentWindows
+mod EntriesGrow
+mod EntryChanges
 mod EntryExact
 mod EntryGiven
 mod EntryHistory
+mod EntryKnown
 mod EntryLast
 mod EntryNumbering
 mod EntryOrdered
 mod EntryRowLists
 pub mod Graphs
 pub mod JoinedWindows
+mod LaterIds
 pub mod Lexicons
 pub mod Members
 pub mod Naming

@@ -1,5 +1,5 @@
 -- The rows that one change gives, and what is known of its terms before it is committed.
-use Rattle.std.specs.Prelude.{◌≡◌, ◌↔◌, ℕ, List, [], ◌∷◌, map, length, Option, Some, None}
+use Rattle.std.specs.Prelude.{◌≡◌, ◌↔◌, ℕ, suc, ◌≤◌, List, [], ◌∷◌, ◌++◌, map, length, take, drop, ◌+◌, ◌-◌, Option, Some, None}
 use Rattle.std.specs.List.{slice_get}
 use Rattle.term_core.specs.declared.term.Term.{Term}
 use Rattle.term_core.specs.declared.statement.Statement.{Statement}
@@ -7,8 +7,9 @@ use Rattle.term_core.specs.Spelling.{spelling}
 use Rattle.window_core.specs.declared.rows.Index.{Index}
 use Rattle.window_core.specs.declared.rows.Index.TheVariants.{T2i, I2t, Spo, Pos, Osp}
 use Rattle.window_core.specs.declared.rows.Row.{Row}
-use Rattle.window_core.specs.Rows.{StandInOrder}
+use Rattle.window_core.specs.Rows.{StandInOrder, AreChanges}
 use Rattle.base_core.specs.Lists.{Has}
+use Rattle.change_model.specs.declared.history.Committed.{Committed}
 use Rattle.change_model.specs.declared.entry.Entry.{Entry}
 use Rattle.change_model.specs.declared.entry.Resolved.{Resolved}
 use Rattle.change_model.specs.declared.vocabulary.Places.{Places}
@@ -31,6 +32,29 @@ pub record IsLastEntry (history : History) (entry : Entry) : Type 0 where
   pub spo : AreRowsOf Spo history entry.time entry.spo
   pub pos : AreRowsOf Pos history entry.time entry.pos
   pub osp : AreRowsOf Osp history entry.time entry.osp
+
+-- Whatever history it is of: in each index the entry's rows are of the time, and stand by key, each key once.
+pub record IsEntry (time : ℕ) (entry : Entry) : Type 0 where
+  pub time_is : entry.time ≡ time
+  pub t2i : AreChanges time entry.t2i
+  pub i2t : AreChanges time entry.i2t
+  pub spo : AreChanges time entry.spo
+  pub pos : AreChanges time entry.pos
+  pub osp : AreChanges time entry.osp
+
+-- the entry has the rows of the history's change of this time
+pub record IsEntryAt (history : History) (time : ℕ) (entry : Entry) : Type 0 where
+  pub known : time ≤ length history
+  pub last : IsLastEntry (take time history) entry
+
+-- the entries of the times after one and up to another, in their order
+abbrev pub AreEntriesBetween : History → ℕ → ℕ → List Entry → Type 0
+AreEntriesBetween history from upto [] = from ≡ upto
+AreEntriesBetween history from upto (entry ∷ entries) = IsEntryAt history (suc from) entry × AreEntriesBetween history (suc from) upto entries
+
+-- the entries of the times after this one, in their order
+abbrev pub AreEntriesAfter : History → ℕ → List Entry → Type 0
+AreEntriesAfter history pinned entries = AreEntriesBetween history pinned (length history) entries
 
 -- the id is the term's, and none exactly where it has none
 abbrev pub IsIdOf : History → Term → Option ℕ → Type 0
@@ -65,3 +89,41 @@ pub record IsVocabularyOf (statements : List Statement) (vocabulary : Vocabulary
 pub record IsResolved (history : History) (resolved : Resolved) : Type 0 where
   pub vocabulary : IsVocabularyOf resolved.change.statements resolved.vocabulary
   pub ids : AreIdsOf history resolved.vocabulary.terms resolved.ids
+
+-- The entry of a history's last change is one of its time, whatever the history.
+abbrev pub LastEntryLaw : Type 0
+LastEntryLaw = (history : History) (entry : Entry) → IsLastEntry history entry → IsEntry (length history) entry × IsEntryAt history (length history) entry
+
+-- The entry of a time stays the entry of that time.
+abbrev pub LongerEntryLaw : Type 0
+LongerEntryLaw = (history more : History) (time : ℕ) (entry : Entry) → IsEntryAt history time entry → IsEntryAt (history ++ more) time entry
+
+-- So do the entries between two times.
+abbrev pub LongerEntriesLaw : Type 0
+LongerEntriesLaw =
+    (history more : History) (from upto : ℕ) (entries : List Entry)
+    → AreEntriesBetween history from upto entries → AreEntriesBetween (history ++ more) from upto entries
+
+-- With the entry of the next time they are the entries up to that time.
+abbrev pub NextEntryLaw : Type 0
+NextEntryLaw =
+    (history : History) (from upto : ℕ) (entries : List Entry) (entry : Entry)
+    → AreEntriesBetween history from upto entries → IsEntryAt history (suc upto) entry → AreEntriesBetween history from (suc upto) (entries ++ entry ∷ [])
+
+-- So are the entries after a time, once the history has one more change.
+abbrev pub GrownEntriesLaw : Type 0
+GrownEntriesLaw =
+    (history : History) (committed : Committed) (from : ℕ) (entries : List Entry) (entry : Entry)
+    → AreEntriesAfter history from entries → IsLastEntry (history ++ committed ∷ []) entry → AreEntriesAfter (history ++ committed ∷ []) from (entries ++ entry ∷ [])
+
+-- Of the entries between two times, those between two times within these.
+abbrev pub SomeEntriesLaw : Type 0
+SomeEntriesLaw =
+    (history : History) (from first last upto : ℕ) (entries : List Entry)
+    → AreEntriesBetween history from upto entries → from ≤ first → first ≤ last → last ≤ upto
+    → AreEntriesBetween history first last (take (last - first) (drop (first - from) entries))
+
+-- There are as many as times.
+abbrev pub CountedEntriesLaw : Type 0
+CountedEntriesLaw =
+    (history : History) (from upto : ℕ) (entries : List Entry) → AreEntriesBetween history from upto entries → upto ≡ from + length entries

@@ -2,6 +2,7 @@ pub mod Entries
 pub mod EntryRows
 pub mod History
 pub mod IndexRows
+pub mod Known
 pub mod Laws
 pub mod Lexicon
 pub mod Numbering

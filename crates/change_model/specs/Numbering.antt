@@ -1,5 +1,5 @@
 -- Private: how the terms of a change get their ids, by the terms that were known before it.
-use Rattle.std.specs.Prelude.{◌≡◌, ℕ, suc, List, [], ◌∷◌, ◌++◌, map, length, Option, Some, None, slice_index_or}
+use Rattle.std.specs.Prelude.{◌≡◌, ℕ, suc, ◌<◌, ◌^◌, List, [], ◌∷◌, ◌++◌, map, length, Option, Some, None, slice_index_or}
 use Rattle.std.specs.HashMap.{HashMap, get}
 use Rattle.std.specs.List.{slice_get, AllZip, AllByRecursion}
 use Rattle.term_core.specs.declared.term.Term.{Term}
@@ -22,18 +22,6 @@ HasIdIn known term id = (place : ℕ) × (slice_get known place ≡ Some term) �
 abbrev pub IsIdIn : List Term → Term → Option ℕ → Type 0
 IsIdIn known term (Some id) = HasIdIn known term id
 IsIdIn known term None = (id : ℕ) → HasIdIn known term id → ⊥
-
--- a label stands for a node that has no id yet
-abbrev pub known_id : Term → Option ℕ → Option ℕ
-known_id (Iri iri) id = id
-known_id (Literal form datatype) id = id
-known_id (Tagged form tag) id = id
-known_id (Blank at label) id = None
-
-abbrev pub known_ids : List Term → List (Option ℕ) → List (Option ℕ)
-known_ids [] ids = []
-known_ids (term ∷ terms) [] = known_id term None ∷ known_ids terms []
-known_ids (term ∷ terms) (id ∷ ids) = known_id term id ∷ known_ids terms ids
 
 -- the terms that are known before the time, so many; none of them is a node of this time
 pub record IsBase (base : List Term) (number time : ℕ) : Type 0 where
@@ -64,6 +52,11 @@ pub record IsNumbering (base known : List Term) (number : ℕ) (brought : List N
   pub rules : AllByRecursion IsTerm known
   pub count : number ≡ length known
   pub entries : brought ≡ new_terms (length base) grown.0
+
+-- they have the numbers that follow the first one, up to the last, which fits 64 bits
+abbrev pub AreNextTo : ℕ → List NewTerm → ℕ → Type 0
+AreNextTo first [] last = (first ≡ last) × (last < 2 ^ 64)
+AreNextTo first (term ∷ terms) last = (term.id ≡ suc first) × AreNextTo (suc first) terms last
 
 -- the terms are distinct, and each has its spelling
 pub record AreSpelled (vocabulary : Vocabulary) : Type 0 where

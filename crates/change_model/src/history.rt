@@ -1,5 +1,6 @@
 //! Committed changes and where they came from.
 use base_core::List;
+use history_board::Made;
 use term_core::Statement;
 
 #[derive(Clone, Copy, Debug, PartialEq, Eq)]
@@ -27,4 +28,19 @@ pub struct Origin {
 pub struct Committed {
     pub change: Change,
     pub origin: Origin,
+}
+
+/// An entry of the board of all commits is a change with its origin, so that two equal changes are two entries.
+impl Made for Committed {
+    ghost session_of = { λ c. c.origin.session };
+
+    ghost command_of = { λ c. c.origin.command };
+
+    fn session(&self) -> u32 {
+        self.origin.session
+    }
+
+    fn command(&self) -> u32 {
+        self.origin.command
+    }
 }

@@ -3,6 +3,9 @@ ghost use Rattle.std.specs.Prelude.{◌≡◌, map, IfOk, OnOk};
 ghost use Rattle.std.specs.List.Sorted.{IsPermutation, IsSorted};
 ghost use Rattle.base_core.specs.Numbers.{number_bytes};
 ghost use Rattle.triple_keys.specs.declared.order.Order.TheVariants.{Spo, Pos, Osp};
+ghost use Rattle.base_core.specs.Lists.{Has};
+ghost use Rattle.window_core.specs.declared.rows.Row.{Row as AnyRow};
+ghost use Rattle.window_core.specs.Rows.{StandInOrder, AreChanges};
 ghost use Rattle.change_model.specs.IndexRows.{cell_of};
 ghost use Rattle.change_model.specs.EntryRows.{HaveOwnKeys, AreOrdered, key_cmp, term_row, id_row, statement_row};
 
@@ -16,7 +19,8 @@ use window_core::{Cell, Row, Rows};
 
 /// The rows of the terms that have new ids, by their spellings.
 pub(crate) fn term_rows(alloc: Global, terms: Vec<NewTerm>, time: u64) -> Result<Rows, Want>
-    ensures { IfOk result (λ made. HaveOwnKeys (map (term_row time) terms.items) → AreOrdered made (map (term_row time) terms.items)) }
+    ensures changes { IfOk result (AreChanges time) }
+    ensures ordered { IfOk result (λ made. HaveOwnKeys (map (term_row time) terms.items) → AreOrdered made (map (term_row time) terms.items)) }
 {
     let mut rows = Vec::with_capacity(alloc, terms.len())?;
     'terms: for term in terms {
@@ -25,11 +29,14 @@ pub(crate) fn term_rows(alloc: Global, terms: Vec<NewTerm>, time: u64) -> Result
     by_key(rows)
 }
 
-/// The rows by key. Each has a key of its own.
+/// The rows by key. All are kept where each has a key of its own, else one of each key.
 fn by_key(mut rows: Vec<Row>) -> Result<Rows, Want>
-    ensures { IfOk result (λ made. HaveOwnKeys rows.items → AreOrdered made rows.items) }
+    ensures order { IfOk result StandInOrder }
+    ensures kept { IfOk result (λ made. (row : AnyRow) → Has made row → Has rows.items row) }
+    ensures ordered { IfOk result (λ made. HaveOwnKeys rows.items → AreOrdered made rows.items) }
 {
     rows.sort_by(|one, other| one.key.cmp(&other.key))?;
+    rows.dedup_by(|one, other| one.key.cmp(&other.key).is_eq());
     Ok(Rows::of(rows))
 }
 

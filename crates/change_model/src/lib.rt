@@ -2,8 +2,10 @@
 #![tactic(auto)]
 
 mod entry;
+mod entry_law;
 mod history;
 mod index_rows;
+mod known;
 mod label;
 mod law;
 mod numbering;
@@ -13,6 +15,10 @@ mod vocabulary;
 mod window_law;
 
 pub use entry::{Entry, Resolved, entry_of};
+pub use entry_law::{
+    counted_entries_law, grown_entries_law, last_entry_law, longer_entries_law, longer_entry_law,
+    next_entry_law, some_entries_law,
+};
 pub use history::{Change, Committed, Kind, Origin};
 pub use law::{graph_law, id_law, lexicon_law};
 pub use vocabulary::{Places, Vocabulary, vocabulary_of};

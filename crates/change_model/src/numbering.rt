@@ -1,5 +1,5 @@
 //! The ids of the terms and statements of a change once it is committed.
-ghost use Rattle.std.specs.Prelude.{◌≡◌, ℕ, ◌+◌, ◌++◌, ◌∷◌, [], map, slice_index_or, slice_get, option_copied, IfOk, IfSome, OnOk, MatchOption, None};
+ghost use Rattle.std.specs.Prelude.{◌≡◌, ℕ, ◌+◌, ◌<◌, ◌^◌, ◌++◌, ◌∷◌, [], map, slice_index_or, slice_get, option_copied, IfOk, IfSome, OnOk, MatchOption, None};
 ghost use Rattle.std.specs.List.{filter_map};
 ghost use Rattle.std.specs.Prelude.{List as Items};
 ghost use Rattle.term_core.specs.declared.term.Term.{Term as AnyTerm};
@@ -8,7 +8,7 @@ ghost use Rattle.term_core.specs.Spelling.{spelling as spelling_of};
 ghost use Rattle.term_core.specs.Term.{IsTerm};
 ghost use Rattle.change_model.specs.History.{bound_term};
 ghost use Rattle.change_model.specs.Lexicon.{with_terms, brought};
-ghost use Rattle.change_model.specs.Numbering.{AreIdsIn, AreIdsAt, AreSpelled, IsNumbering, IsBase, IsUnlabelled, IsNext, IsGiving, IsGiven, BindWell, nodes_of, known_id, known_ids, ids_at};
+ghost use Rattle.change_model.specs.Numbering.{AreIdsAt, AreSpelled, AreNextTo, IsNumbering, IsBase, IsUnlabelled, IsNext, IsGiving, IsGiven, BindWell, nodes_of, ids_at};
 
 use crate::entry::Resolved;
 use crate::history::Kind;
@@ -41,53 +41,32 @@ pub(crate) struct Numbered {
     pub(crate) brought: Vec<NewTerm>,
 }
 
-/// The ids of the terms of a change that is committed at this time, when `terms` ids were given out before. An Add gives
-/// the next ones to terms that have none.
+/// The ids of the terms of a change that is committed at this time, when `terms` ids were given out before, and its terms
+/// have these. An Add gives the next ones to terms that have none.
 pub(crate) fn number_terms(
     alloc: Global,
     resolved: &Resolved,
+    known: Vec<Option<u64>>,
     terms: u64,
     time: u64,
 ) -> Result<Numbered, Want>
     ensures ids { IfOk result (λ made. (base : Items AnyTerm) → IsBase base terms time → AreSpelled resolved.now.vocabulary →
-        BindWell time resolved.now.vocabulary.terms → AreIdsIn base resolved.now.vocabulary.terms resolved.now.ids →
+        BindWell time resolved.now.vocabulary.terms → AreIdsAt time base resolved.now.vocabulary.terms known.items →
         AreIdsAt time (with_terms base (brought resolved.now.change.kind (map (bound_term time) resolved.now.vocabulary.terms)))
         resolved.now.vocabulary.terms made.ids.items) }
     ensures numbering { IfOk result (λ made. (base : Items AnyTerm) → IsBase base terms time → AreSpelled resolved.now.vocabulary →
-        BindWell time resolved.now.vocabulary.terms → AreIdsIn base resolved.now.vocabulary.terms resolved.now.ids →
+        BindWell time resolved.now.vocabulary.terms → AreIdsAt time base resolved.now.vocabulary.terms known.items →
         IsNumbering base (with_terms base (brought resolved.now.change.kind (map (bound_term time) resolved.now.vocabulary.terms)))
         made.count made.brought.items) }
+    ensures rising { IfOk result (λ made. AreNextTo terms made.brought.items made.count) }
 {
-    let vocabulary = &resolved.vocabulary;
-    let known = known_ids(alloc, vocabulary.terms.items(), resolved.ids.items())?;
     match resolved.change.kind {
-        Kind::Add => give_ids(alloc, vocabulary, &known, terms, time),
+        Kind::Add => give_ids(alloc, &resolved.vocabulary, &known, terms, time),
         Kind::Remove => Ok(Numbered {
             count: terms,
             ids: known,
             brought: Vec::new(alloc),
         }),
-    }
-}
-
-/// The ids that the terms have already once their labels are bound.
-fn known_ids(alloc: Global, terms: &[Term], ids: &[Option<u64>]) -> Result<Vec<Option<u64>>, Want>
-    ensures { IfOk result (λ known. known.items ≡ known_ids terms.now ids.now) }
-{
-    let mut known = Vec::with_capacity(alloc, terms.len())?;
-    'terms: for (place, term) in terms.iter().enumerate() {
-        known.push(known_id(term, id_at(ids, place)))?;
-    }
-    Ok(known)
-}
-
-/// A label stands for a new node, which has no id.
-fn known_id(term: &Term, id: Option<u64>) -> Option<u64>
-    ensures { result ≡ known_id term.now id }
-{
-    match term {
-        Term::Blank { .. } => None,
-        Term::Iri(_) | Term::Literal { .. } | Term::Tagged { .. } => id,
     }
 }
 
@@ -105,6 +84,7 @@ fn give_ids(
     ensures numbering { IfOk result (λ made. (base : Items AnyTerm) → IsBase base count time → AreSpelled vocabulary.now →
         BindWell time vocabulary.now.terms → AreIdsAt time base vocabulary.now.terms ids.now →
         IsNumbering base (with_terms base (map (bound_term time) vocabulary.now.terms)) made.count made.brought.items) }
+    ensures rising { IfOk result (λ made. AreNextTo count made.brought.items made.count) }
 {
     let terms = vocabulary.terms.items();
     let mut giving = Giving {
@@ -145,10 +125,11 @@ impl<'a> Giving<'a> {
         id: Option<u64>,
         time: u64,
     ) -> Result<u64, Want>
-        ensures { IfOk result (λ given. (base known : Items AnyTerm) → IsNext base known time term.now id →
+        ensures given { IfOk result (λ given. (base known : Items AnyTerm) → IsNext base known time term.now id →
             IfSome spelling.entry (λ key. key.now ≡ spelling_of term.now) →
             IsGiving base known time self.old.count self.old.brought.items (nodes_of self.old.nodes) →
             IsGiven base known time term.now given self.new.count self.new.brought.items (nodes_of self.new.nodes)) }
+        ensures rising { OnOk result ((first : ℕ) → AreNextTo first self.old.brought.items self.old.count → AreNextTo first self.new.brought.items self.new.count) }
     {
         match label_of(term) {
             Some(label) => self.node_id(alloc, label, time),
@@ -164,10 +145,11 @@ impl<'a> Giving<'a> {
         spelling: Option<&Key>,
         id: Option<u64>,
     ) -> Result<u64, Want>
-        ensures { IfOk result (λ given. (base known : Items AnyTerm) (time : ℕ) → IsUnlabelled term.now →
+        ensures given { IfOk result (λ given. (base known : Items AnyTerm) (time : ℕ) → IsUnlabelled term.now →
             IsNext base known time term.now id → IfSome spelling.entry (λ key. key.now ≡ spelling_of term.now) →
             IsGiving base known time self.old.count self.old.brought.items (nodes_of self.old.nodes) →
             IsGiven base known time term.now given self.new.count self.new.brought.items (nodes_of self.new.nodes)) }
+        ensures rising { OnOk result ((first : ℕ) → AreNextTo first self.old.brought.items self.old.count → AreNextTo first self.new.brought.items self.new.count) }
     {
         if let Some(id) = id {
             return Ok(id);
@@ -179,9 +161,10 @@ impl<'a> Giving<'a> {
 
     /// The id of the label's node, the next one if the label is new.
     fn node_id(&mut self, alloc: Global, label: &'a Text, time: u64) -> Result<u64, Want>
-        ensures { IfOk result (λ given. (base known : Items AnyTerm) → IsTerm (Blank time label.now) →
+        ensures given { IfOk result (λ given. (base known : Items AnyTerm) → IsTerm (Blank time label.now) →
             IsGiving base known time self.old.count self.old.brought.items (nodes_of self.old.nodes) →
             IsGiven base known time (Blank time label.now) given self.new.count self.new.brought.items (nodes_of self.new.nodes)) }
+        ensures rising { OnOk result ((first : ℕ) → AreNextTo first self.old.brought.items self.old.count → AreNextTo first self.new.brought.items self.new.count) }
     {
         if let Some(id) = self.nodes.get(&Label::of(label.text())) {
             return Ok(*id);
@@ -198,6 +181,7 @@ impl<'a> Giving<'a> {
     /// Gives the next id to the term of this spelling.
     fn next_id(&mut self, key: Key) -> Result<u64, Want>
         ensures id { IfOk result (λ given. given ≡ self.old.count + 1) }
+        ensures fits { IfOk result (λ given. given < 2 ^ 64) }
         ensures count { IfOk result (λ given. self.new.count ≡ given) }
         ensures brought { IfOk result (λ given. self.new.brought.items ≡ self.old.brought.items ++ record { key = key; id = given } ∷ []) }
         ensures nodes { OnOk result (self.new.nodes ≡ self.old.nodes) }
@@ -212,7 +196,7 @@ impl<'a> Giving<'a> {
 }
 
 /// The label of the term, if it bears one.
-fn label_of(term: &Term) -> Option<&Text>
+pub(crate) fn label_of(term: &Term) -> Option<&Text>
     ensures { MatchOption result (IsUnlabelled term.now) (λ label. (at : ℕ) × (term.now ≡ Blank at label.now)) }
 {
     match term {
@@ -222,7 +206,7 @@ fn label_of(term: &Term) -> Option<&Text>
 }
 
 /// The spelling at the place, if there is one.
-fn key_at(spellings: &[Key], place: usize) -> Option<&Key>
+pub(crate) fn key_at(spellings: &[Key], place: usize) -> Option<&Key>
     ensures { option_copied result ≡ slice_get spellings.now place }
 {
     spellings.get(place)
@@ -239,7 +223,7 @@ fn spelling_for(alloc: Global, term: &Term, spelling: Option<&Key>) -> Result<Ke
 }
 
 /// The id at the place, if there is one.
-fn id_at(ids: &[Option<u64>], place: usize) -> Option<u64>
+pub(crate) fn id_at(ids: &[Option<u64>], place: usize) -> Option<u64>
     ensures { result ≡ slice_index_or ids.now place None }
 {
     ids.get(place).copied().unwrap_or(None)

@@ -1,6 +1,7 @@
 use super::*;
 use base_core::{List, Text, Want};
 use std::alloc::Global;
+use std::sync::Arc;
 use std::test::Fail;
 use term_core::{Statement, Term};
 use window_core::{Cell, Row, Rows};
@@ -45,7 +46,54 @@ fn entry_with(
         vocabulary,
         ids,
     };
-    entry_of(alloc, &resolved, known, 5)
+    entry_of(alloc, &resolved, &nothing_later(alloc), known, 5)
+}
+
+fn nothing_later(alloc: Global) -> List<Arc<Entry>> {
+    List::of(Vec::new(alloc))
+}
+
+/// The list of this one entry.
+fn only(alloc: Global, entry: Entry) -> Result<List<Arc<Entry>>, Want> {
+    let mut entries = Vec::new(alloc);
+    entries.push(Arc::new(alloc, entry)?)?;
+    Ok(List::of(entries))
+}
+
+/// The entry of a change of one statement, whose terms were looked up before the first change.
+fn entry_since(
+    alloc: Global,
+    kind: Kind,
+    statement: Statement,
+    later: &List<Arc<Entry>>,
+    known: u64,
+    time: u64,
+) -> Result<Entry, Want> {
+    let statements = one(alloc, statement)?;
+    let vocabulary = vocabulary_of(alloc, &statements)?;
+    let ids = List::of(vec![in alloc; None; vocabulary.terms.items().len()]?);
+    let change = Change { kind, statements };
+    let resolved = Resolved {
+        change,
+        vocabulary,
+        ids,
+    };
+    entry_of(alloc, &resolved, later, known, time)
+}
+
+/// The entry of the first change, which adds `a p new`.
+fn first_entry(alloc: Global) -> Result<List<Arc<Entry>>, Want> {
+    let statement = triple(alloc, "http://e/a", "http://e/p", "http://e/new")?;
+    let entry = entry_since(alloc, Kind::Add, statement, &nothing_later(alloc), 0, 1)?;
+    only(alloc, entry)
+}
+
+fn triple(alloc: Global, subject: &str, predicate: &str, object: &str) -> Result<Statement, Want> {
+    Ok(Statement {
+        subject: iri(alloc, subject)?,
+        predicate: iri(alloc, predicate)?,
+        object: iri(alloc, object)?,
+    })
 }
 
 /// The statement `a p b`, so many times.
@@ -201,5 +249,32 @@ fn a_label_of_two_times_is_one_node(rt: HostRuntime) -> Result<(), Fail> {
     let entry = entry_with(rt.alloc(), Kind::Add, statements, ids, 2)?;
     assert_eq!(rt; entry.terms, 3);
     assert_eq!(rt; entry.spo.items().len(), 1);
+    Ok(())
+}
+
+#[test]
+fn a_term_has_the_id_that_a_later_entry_gave(rt: HostRuntime) -> Result<(), Fail> {
+    let later = first_entry(rt.alloc())?;
+    let statement = triple(rt.alloc(), "http://e/new", "http://e/q", "http://e/b")?;
+    let entry = entry_since(rt.alloc(), Kind::Add, statement, &later, 3, 2)?;
+    assert_eq!(rt; entry.terms, 5);
+    assert_eq!(rt; entry.t2i.items().len(), 2);
+    assert!(rt;
+        begins_with(
+            &entry.spo,
+            b"\0\0\0\0\0\0\0\x03\0\0\0\0\0\0\0\x04\0\0\0\0\0\0\0\x05",
+            Some(b"")
+        )
+    );
+    Ok(())
+}
+
+#[test]
+fn a_remove_marks_a_statement_that_a_later_entry_added(rt: HostRuntime) -> Result<(), Fail> {
+    let later = first_entry(rt.alloc())?;
+    let statement = triple(rt.alloc(), "http://e/a", "http://e/p", "http://e/new")?;
+    let entry = entry_since(rt.alloc(), Kind::Remove, statement, &later, 3, 2)?;
+    assert_eq!(rt; entry.terms, 3);
+    assert!(rt; begins_with(&entry.spo, SPO_1_2_3, None));
     Ok(())
 }

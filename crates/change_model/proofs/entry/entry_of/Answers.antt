@@ -1,21 +1,17 @@
-use Rattle.std.proofs.Common.{◌∙◌, map, ap, refl}
-use Rattle.std.specs.List.{filter_map}
-use Rattle.change_model.specs.EntryRows.{id_row}
-use Rattle.change_model.specs.Numbering.{ids_at}
-use Rattle.change_model.proofs.EntryLast.{last_entry}
+use Rattle.std.proofs.Common.{ℕ, List, map, sym, subst}
+use Rattle.std.specs.Arc.{arc_value}
+use Rattle.term_core.specs.declared.term.Term.{Term}
+use Rattle.change_model.specs.Known.{AreTold}
+use Rattle.change_model.specs.Numbering.{AreIdsIn, AreIdsAt, AreSpelled, BindWell}
+use Rattle.change_model.proofs.EntryKnown.{known_at_last}
 use Rattle.change_model.proofs.entry.entry_of.Goals as goal
 
-pub returns : goal.returns
-returns c history origin is writable count time =
-    last_entry history c.args.resolved.now origin c.args.terms c.args.time c.in_ok-numbered.numbered.ids.items c.in_ok-numbered.numbered.brought.items c.in_ok-ids.ids.items _
-    (record {
-      ids = c.in_ok-numbered.ensures.ids;
-      numbering = c.in_ok-numbered.ensures.numbering;
-      listed = c.in_ok-ids.ensures ∙ (λ i. filter_map (ids_at (c.deref.ensures.value i)) (c.items.ensures i));
-      time_is = refl;
-      t2i = c.in_ok-t2i.ensures;
-      i2t = c.in_ok-i2t.ensures ∙ ap (map (id_row c.args.time)) c.deref-2.ensures.value;
-      spo = c.in_ok-statements.ensures.spo;
-      pos = c.in_ok-statements.ensures.pos;
-      osp = c.in_ok-statements.ensures.osp;
-    }) is writable count time
+pub returns-clause-last : goal.returns-clause-last
+returns-clause-last c history pinned origin is are writable count time =
+    let resolved = c.args.resolved.now in
+    let tells : (at : ℕ) (early base : List Term) → AreTold at early base (map arc_value c.args.later.now) → AreSpelled resolved.vocabulary → BindWell at resolved.vocabulary.terms
+    → AreIdsIn early resolved.vocabulary.terms resolved.ids → AreIdsAt at base resolved.vocabulary.terms c.in_ok-known.known.items =
+    λ at early base told spelled bind ids.
+    c.in_ok-known.ensures at early base (subst (λ later. AreTold at early base (map arc_value later)) (sym c.items-2.ensures) told) spelled bind (subst (AreIdsIn early resolved.vocabulary.terms) (sym c.items.ensures) ids) in
+    c.entry_with.ensures.last history origin is.vocabulary
+    (known_at_last history pinned resolved origin c.args.time (map arc_value c.args.later.now) c.in_ok-known.known.items tells is are writable time) writable count time

@@ -10,9 +10,9 @@ add-requires c =
     let store = c.args.self.now in
     let committed : Committed = record { change = c.args.change; origin = c.args.origin } in
     let ids = rw c.items.ensures at c.in_ok-time.ensures.ids in
-    let told = entry_told history store c.args.change c.args.origin c.in_ok-resolved.resolved c.in_ok-entry.entry c.terms.result c.in_ok-time.time stands
+    let told = entry_told history store c.args.change c.args.origin c.in_ok-resolved.resolved c.of-later.result c.in_ok-entry.entry c.terms.result c.in_ok-time.time stands
     c.requires.statements (c.in_ok-resolved.ensures.resolved history stands.indexes) c.in_ok-resolved.ensures.change c.in_ok-time.ensures.times ids
-    c.in_ok-entry.ensures c.terms.ensures c.in_ok-time.ensures.time in
+    (c.of-later.ensures ∙ c.new.ensures.items) c.in_ok-entry.ensures.last c.terms.ensures c.in_ok-time.ensures.time in
     entry_is_next history committed store.indexes c.in_ok-entry.entry stands.indexes told.last
 
 pub returns-clause-stands : goal.returns-clause-stands
@@ -20,9 +20,9 @@ returns-clause-stands c history stands =
     let store = c.args.self.now in
     let committed : Committed = record { change = c.args.change; origin = c.args.origin } in
     let ids = rw c.items.ensures at c.in_ok-time.ensures.ids in
-    let told = entry_told history store c.args.change c.args.origin c.in_ok-resolved.resolved c.in_ok-entry.entry c.terms.result c.in_ok-time.time stands
+    let told = entry_told history store c.args.change c.args.origin c.in_ok-resolved.resolved c.of-later.result c.in_ok-entry.entry c.terms.result c.in_ok-time.time stands
     c.requires.statements (c.in_ok-resolved.ensures.resolved history stands.indexes) c.in_ok-resolved.ensures.change c.in_ok-time.ensures.times ids
-    c.in_ok-entry.ensures c.terms.ensures c.in_ok-time.ensures.time in
+    (c.of-later.ensures ∙ c.new.ensures.items) c.in_ok-entry.ensures.last c.terms.ensures c.in_ok-time.ensures.time in
     record {
       indexes = c.in_ok-add.ensures history committed stands.indexes told.writable told.last;
       origins = origins_grow history committed store.origins c.append.new.self stands.origins
