@@ -12,6 +12,7 @@ use Rattle.bigfed.specs.Documents.{docs_of, Holds, AreDocsOf, AreGathered}
 use Rattle.bigfed.specs.Program.{Documents, AreDocuments, IsNamed, name_of, size_of, total, with_document, with_lines}
 use Rattle.bigfed.specs.Names.{has_name, with_name}
 use Rattle.bigfed.proofs.Outsides.{IsDocOf-within}
+use Rattle.nt_text.specs.Limits.{largest_document}
 
 -- names that compare alike are one
 same_name : (key name : List ℕ) → is_at (slice_cmp nat_cmp key) name ≡ true → key ≡ name
@@ -19,12 +20,12 @@ same_name key name alike = (bytes_decides key name).0 (texts_ties key name ∙ a
 
 -- one more document under a name
 pub IsDocOf-more : (told : Option (List (List ℕ × List ℕ))) (key name : List ℕ) (doc : Doc) (old new : Option Doc)
-    → new ≡ cond (is_at (slice_cmp nat_cmp key) name) (Some doc) old → IsDocOf told 33554432 key doc
-    → IfSome old (IsDocOf told 33554432 name) → IfSome new (IsDocOf told 33554432 name)
+    → new ≡ cond (is_at (slice_cmp nat_cmp key) name) (Some doc) old → IsDocOf told largest_document key doc
+    → IfSome old (IsDocOf told largest_document name) → IfSome new (IsDocOf told largest_document name)
 IsDocOf-more told key name doc old new is read was = by (is_at (slice_cmp nat_cmp key) name) refl is
   where
-    by : (at : Bool) → is_at (slice_cmp nat_cmp key) name ≡ at → new ≡ cond at (Some doc) old → IfSome new (IsDocOf told 33554432 name)
-    by true alike e = rw e (subst (λ (n : List ℕ). IsDocOf told 33554432 n doc) (same_name key name alike) read)
+    by : (at : Bool) → is_at (slice_cmp nat_cmp key) name ≡ at → new ≡ cond at (Some doc) old → IfSome new (IsDocOf told largest_document name)
+    by true alike e = rw e (subst (λ (n : List ℕ). IsDocOf told largest_document n doc) (same_name key name alike) read)
     by false other e = rw e was
 
 -- some name is one of the names
@@ -155,7 +156,7 @@ AreGathered-again told docs names size name gathered held =
 -- a new name brings the bytes of its document
 pub AreGathered-more : (told : Documents) (old new : BTreeMap (List ℕ) Doc) (names : List (List ℕ)) (size : ℕ) (key name : List ℕ) (doc : Doc)
     → AreGathered told old names size → key ≡ name → is_some (get (slice_cmp nat_cmp) old name) ≡ false
-    → Puts old new key doc → IsDocOf told 33554432 name doc
+    → Puts old new key doc → IsDocOf told largest_document name doc
     → AreGathered told new (with_name names name) (size + size_of doc)
 AreGathered-more told old new names size key name doc gathered is fresh by_key read =
     let puts : Puts old new name doc = subst (λ (k : List ℕ). Puts old new k doc) is by_key in
@@ -195,27 +196,27 @@ gathered_line told before old new lines shown i size more line same_told is belo
     (subst (λ (t : Documents). AreGathered t new longer (size + more)) same_told (adds names size here))
 
 -- what a name that was asked for has
-pub docs_of-found : (told : Option (List (List ℕ × List ℕ))) (docs : BTreeMap (List ℕ) Doc) (name : List ℕ) → Holds docs name → AreDocsOf told docs → IsDocOf told 33554432 name (docs_of docs name)
+pub docs_of-found : (told : Option (List (List ℕ × List ℕ))) (docs : BTreeMap (List ℕ) Doc) (name : List ℕ) → Holds docs name → AreDocsOf told docs → IsDocOf told largest_document name (docs_of docs name)
 docs_of-found told docs name held read = by (get (slice_cmp nat_cmp) docs name) held (read name)
   where
-    by : (found : Option Doc) → IsSome found → IfSome found (IsDocOf told 33554432 name) → IsDocOf told 33554432 name (unwrap_or found Missing)
+    by : (found : Option Doc) → IsSome found → IfSome found (IsDocOf told largest_document name) → IsDocOf told largest_document name (unwrap_or found Missing)
     by None some h = cc
     by (Some doc) some h = h
 
 -- each document is within the limit
-pub docs_of-within : (told : Option (List (List ℕ × List ℕ))) (docs : BTreeMap (List ℕ) Doc) (name : List ℕ) → AreDocsOf told docs → IsWithin 33554432 (docs_of docs name)
+pub docs_of-within : (told : Option (List (List ℕ × List ℕ))) (docs : BTreeMap (List ℕ) Doc) (name : List ℕ) → AreDocsOf told docs → IsWithin largest_document (docs_of docs name)
 docs_of-within told docs name read = by (get (slice_cmp nat_cmp) docs name) (read name)
   where
-    by : (found : Option Doc) → IfSome found (IsDocOf told 33554432 name) → IsWithin 33554432 (unwrap_or found Missing)
+    by : (found : Option Doc) → IfSome found (IsDocOf told largest_document name) → IsWithin largest_document (unwrap_or found Missing)
     by None h = tt
-    by (Some doc) h = IsDocOf-within told 33554432 name doc h
+    by (Some doc) h = IsDocOf-within told largest_document name doc h
 
 -- the documents of all names: those that were read, and also the others where the shelf tells them
 abbrev all_docs : Documents → BTreeMap (List ℕ) Doc → List ℕ → Doc
 all_docs None docs name = docs_of docs name
-all_docs (Some documents) docs name = read_up_to 33554432 (document_named documents name)
+all_docs (Some documents) docs name = read_up_to largest_document (document_named documents name)
 
-all_docs-each : (told : Documents) (docs : BTreeMap (List ℕ) Doc) (name : List ℕ) → AreDocsOf told docs → IsDocOf told 33554432 name (all_docs told docs name)
+all_docs-each : (told : Documents) (docs : BTreeMap (List ℕ) Doc) (name : List ℕ) → AreDocsOf told docs → IsDocOf told largest_document name (all_docs told docs name)
 all_docs-each None docs name read = docs_of-within None docs name read
 all_docs-each (Some documents) docs name read = refl
 
@@ -248,6 +249,6 @@ AreGathered-all told docs lines i size past gathered =
     subst (λ (front : List Line). AreGathered told docs (with_lines [] front) size) (take_all i lines past) gathered
 
 pub gathered_each : (told : Documents) (docs : BTreeMap (List ℕ) Doc) (lines : List Line) (size : ℕ) (name : List ℕ)
-    → AreGathered told docs (with_lines [] lines) size → IsNamed name lines → IsDocOf told 33554432 name (docs_of docs name)
+    → AreGathered told docs (with_lines [] lines) size → IsNamed name lines → IsDocOf told largest_document name (docs_of docs name)
 gathered_each told docs lines size name gathered needed =
     docs_of-found told docs name ((gathered.held name).1 (has_name-needed [] lines name needed)) gathered.read

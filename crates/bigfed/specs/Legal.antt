@@ -30,6 +30,8 @@ use Rattle.query_text.specs.declared.fault.QueryFault.{QueryFault}
 use Rattle.query_text.specs.declared.fault.QueryFault.TheVariants as query_fault
 use Rattle.query_text.specs.Meaning.{ReadsQuery}
 use Rattle.query_text.specs.Refusals.{IsQueryFault}
+use Rattle.bigfed.specs.Limits.{most_rows}
+use Rattle.query_text.specs.Limits.{largest_query}
 
 -- the bytes are a document of these statements, within the limits, and this is the first line that has a blank node
 pub record IsReadAs (bytes : List ℕ) (statements : List Statement) (first_label : Option ℕ) : Type 0 where
@@ -80,8 +82,8 @@ column_names query = map (λ column. unwrap_or (slice_get query.names column) []
 abbrev pub IsAnswer : List ℕ → History → Outcome → Type 0
 IsAnswer text history outcome =
     (query : Query) × ReadsQuery text query × (length query.patterns ≤ 16) × (rows : List Solution) × Solutions (graph_at history (length history)) query rows
-    × (((length rows ≤ 1000000) × (outcome ≡ Answered (length history) (column_names query) rows))
-    ⊎ ((1000000 < length rows) × (outcome ≡ TooManyRows (length history))))
+    × (((length rows ≤ most_rows) × (outcome ≡ Answered (length history) (column_names query) rows))
+    ⊎ ((most_rows < length rows) × (outcome ≡ TooManyRows (length history))))
 
 -- what is said of a text that is no query, or of a query of too many patterns
 abbrev pub query_refusal_of : QueryFault → Option Outcome
@@ -95,8 +97,8 @@ IsRefusedQuery text outcome = (bad : QueryFault) × IsQueryFault text bad × (qu
 
 abbrev pub QueryStep : List ℕ → History → Outcome → Type 0
 QueryStep text history outcome =
-    ((65536 < length text) × (outcome ≡ DocumentTooLarge))
-    ⊎ ((length text ≤ 65536) × (IsAnswer text history outcome ⊎ IsRefusedQuery text outcome))
+    ((largest_query < length text) × (outcome ≡ DocumentTooLarge))
+    ⊎ ((length text ≤ largest_query) × (IsAnswer text history outcome ⊎ IsRefusedQuery text outcome))
 
 -- the query of a document
 abbrev pub QueryFileStep : Doc → History → Outcome → Type 0

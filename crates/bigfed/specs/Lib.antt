@@ -2,6 +2,7 @@ pub mod Adding
 pub mod Documents
 pub mod Indexed
 pub mod Legal
+pub mod Limits
 pub mod Names
 pub mod Naming
 pub mod Program

@@ -20,6 +20,9 @@ use Rattle.bigfed.specs.declared.answer.Answer.{Answer}
 use Rattle.bigfed.specs.declared.answer.Answer.TheVariants.{Usage, NoWork, WorkTooLarge, BadWork, DocumentsTooLarge, ShelfFault, Ran}
 use Rattle.bigfed.specs.Legal.{Legal}
 use Rattle.bigfed.specs.Names.{with_name}
+use Rattle.nt_text.specs.Limits.{largest_document}
+use Rattle.bigfed.specs.Limits.{largest_documents}
+use Rattle.work_text.specs.Limits.{largest_work}
 
 abbrev pub is_done : Outcome → Bool
 is_done (Changed time) = true
@@ -112,7 +115,7 @@ total docs (name ∷ names) = size_of (docs name) + total docs names
 
 -- the documents under the names that a work needs, and what they have together
 pub record AreDocuments (told : Documents) (work : Work) (docs : List ℕ → Doc) (size : ℕ) : Type 0 where
-  pub each : (name : List ℕ) → IsNamed name work.lines → IsDocOf told 33554432 name (docs name)
+  pub each : (name : List ℕ) → IsNamed name work.lines → IsDocOf told largest_document name (docs name)
   pub size_is : size ≡ total docs (with_lines [] work.lines)
 
 -- the report of a run is legal for its history, over the documents that the shelf has
@@ -121,7 +124,7 @@ pub record Reports (told : Documents) (bytes : List ℕ) (work : Work) (report :
   pub docs : List ℕ → Doc
   pub size : ℕ
   pub docs_are : AreDocuments told work docs size
-  pub within : size ≤ 536870912
+  pub within : size ≤ largest_documents
   pub history : History
   pub legal : Legal docs work report history
 
@@ -132,21 +135,21 @@ pub record AreTooLarge (told : Documents) (bytes : List ℕ) : Type 0 where
   pub docs : List ℕ → Doc
   pub size : ℕ
   pub docs_are : AreDocuments told work docs size
-  pub above : 536870912 < size
+  pub above : largest_documents < size
 
 -- The answer has its cause in the words, in what the shelf tells, and in its count of faults before and after the call.
 abbrev pub IsAnswerTo : List (List ℕ) → Documents → ℕ → ℕ → Answer → Type 0
 IsAnswerTo words told before after Usage = (name : List ℕ) → words ≡ replay_of name → ⊥
-IsAnswerTo words told before after NoWork = (name : List ℕ) × (words ≡ replay_of name) × IsDocOf told 1048576 name Missing
-IsAnswerTo words told before after WorkTooLarge = (name : List ℕ) × (words ≡ replay_of name) × IsDocOf told 1048576 name TooLarge
+IsAnswerTo words told before after NoWork = (name : List ℕ) × (words ≡ replay_of name) × IsDocOf told largest_work name Missing
+IsAnswerTo words told before after WorkTooLarge = (name : List ℕ) × (words ≡ replay_of name) × IsDocOf told largest_work name TooLarge
 IsAnswerTo words told before after (BadWork line) =
-    (name bytes : List ℕ) × (words ≡ replay_of name) × IsDocOf told 1048576 name (Bytes bytes) × IsBadWorkLine bytes line
+    (name bytes : List ℕ) × (words ≡ replay_of name) × IsDocOf told largest_work name (Bytes bytes) × IsBadWorkLine bytes line
 IsAnswerTo words told before after DocumentsTooLarge =
-    (name bytes : List ℕ) × (words ≡ replay_of name) × IsDocOf told 1048576 name (Bytes bytes) × AreTooLarge told bytes
+    (name bytes : List ℕ) × (words ≡ replay_of name) × IsDocOf told largest_work name (Bytes bytes) × AreTooLarge told bytes
 IsAnswerTo words told before after (ShelfFault count) =
     (name : List ℕ) × (words ≡ replay_of name) × HasRisen before after × (count ≡ after)
 IsAnswerTo words told before after (Ran work report) =
-    (name bytes : List ℕ) × (words ≡ replay_of name) × IsDocOf told 1048576 name (Bytes bytes) × Reports told bytes work report
+    (name bytes : List ℕ) × (words ≡ replay_of name) × IsDocOf told largest_work name (Bytes bytes) × Reports told bytes work report
 
 -- The sink took the whole text without a fault and the status is the answer's, or it took a front of the text, its count rose, and the status is 3.
 abbrev pub IsPrinted : List ℕ → ℕ → Option (List ℕ) → Option (List ℕ) → ℕ → ℕ → ℕ → Type 0

@@ -5,6 +5,7 @@ ghost use Rattle.work_text.specs.Outside.{IsWithin};
 ghost use Rattle.bigfed.specs.Documents.{docs_of};
 ghost use Rattle.bigfed.specs.Legal.{Legal, Step};
 ghost use Rattle.bigfed.specs.Standing.{StoreStandsFor};
+ghost use Rattle.nt_text.specs.Limits.{largest_document};
 
 use crate::shelf::Docs;
 use crate::store::Store;
@@ -16,7 +17,7 @@ use work_text::{Command, Doc, Line, Outcome, RunReport, Work};
 /// Runs the commands of a work in order, from the empty history on.
 pub fn replay(alloc: Global, work: &Work, docs: &Docs) -> Result<RunReport, Want>
     requires few { length work.now.lines ≤ 4096 }
-    requires within { (name : List ℕ) → IsWithin 33554432 (docs_of docs.now name) }
+    requires within { (name : List ℕ) → IsWithin largest_document (docs_of docs.now name) }
     ensures legal { IfOk result (λ report. (history : History) × Legal (docs_of docs.now) work.now report history) }
     ensures commits { IfOk result (λ report. length report.origins ≤ length work.now.lines) }
 {
@@ -43,7 +44,7 @@ fn run_line(
     line: &Line,
     place: u32,
 ) -> Result<Outcome, Want>
-    requires within { (name : List ℕ) → IsWithin 33554432 (docs_of docs.now name) }
+    requires within { (name : List ℕ) → IsWithin largest_document (docs_of docs.now name) }
     requires standing { (history : History) × StoreStandsFor store.old history }
     ensures step { (history : History) → StoreStandsFor store.old history → IfOk result (λ outcome. (after : History)
         × Step (docs_of docs.now) (record { session = line.now.session; command = place }) line.now.command history outcome after

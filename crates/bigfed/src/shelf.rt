@@ -7,6 +7,8 @@ ghost use Rattle.bigfed.specs.Program.{AreDocuments, IsNamed, name_of, size_of, 
 ghost use Rattle.bigfed.specs.Names.{with_name};
 ghost use Rattle.bigfed.specs.Reading.{IsPartly, DocumentGoesOn};
 ghost use Rattle.bigfed.specs.declared.shelf.ShelfFault.TheVariants.{NoMemory, Failed as Fails};
+ghost use Rattle.nt_text.specs.Limits.{largest_document};
+ghost use Rattle.bigfed.specs.Limits.{largest_documents};
 
 use base_core::{List, Text, Want};
 use std::alloc::{AllocError, AllocFailed, Global};
@@ -134,13 +136,13 @@ pub fn gather<S: Shelf>(
     work: &Work,
 ) -> Result<Option<Docs>, ShelfFault>
     ensures found { IfOk result (λ gathered. IfSome gathered (λ docs. (name : Items ℕ) → IsNamed name work.now.lines →
-        IsDocOf (S.documents shelf.old) 33554432 name (docs_of docs name))) }
+        IsDocOf (S.documents shelf.old) largest_document name (docs_of docs name))) }
     ensures small { IfOk result (λ gathered. IfSome gathered (λ docs.
-        total (docs_of docs) (with_lines [] work.now.lines) ≤ 536870912)) }
+        total (docs_of docs) (with_lines [] work.now.lines) ≤ largest_documents)) }
     ensures large { IfOk result (λ gathered. IfNone gathered ((docs : Items ℕ → Doc) × (size : ℕ)
-        × AreDocuments (S.documents shelf.old) work.now docs size × (536870912 < size))) }
+        × AreDocuments (S.documents shelf.old) work.now docs size × (largest_documents < size))) }
     ensures within { IfOk result (λ gathered. IfSome gathered (λ docs.
-        (name : Items ℕ) → IsWithin 33554432 (docs_of docs name))) }
+        (name : Items ℕ) → IsWithin largest_document (docs_of docs name))) }
     ensures same { S.documents shelf.new ≡ S.documents shelf.old }
     ensures later { S.fault_count shelf.old ≤ S.fault_count shelf.new }
     ensures fault { IsErrOf result ShelfFault.Failed → HasRisen (S.fault_count shelf.old) (S.fault_count shelf.new) }
@@ -175,7 +177,7 @@ fn add_line<S: Shelf>(
 ) -> Result<usize, ShelfFault>
     ensures gathered { (names : Items (Items ℕ)) → (size : ℕ) → AreGathered (S.documents shelf.old) docs.old names size → IfOk result (λ more.
         AreGathered (S.documents shelf.old) docs.new (with_document names (name_of line.now.command)) (size + more)) }
-    ensures few { IfOk result (λ more. more ≤ 33554432) }
+    ensures few { IfOk result (λ more. more ≤ largest_document) }
     ensures same { S.documents shelf.new ≡ S.documents shelf.old }
     ensures later { S.fault_count shelf.old ≤ S.fault_count shelf.new }
     ensures fault { IsErrOf result ShelfFault.Failed → HasRisen (S.fault_count shelf.old) (S.fault_count shelf.new) }
@@ -195,7 +197,7 @@ fn add<S: Shelf>(
 ) -> Result<usize, ShelfFault>
     ensures gathered { (names : Items (Items ℕ)) → (size : ℕ) → AreGathered (S.documents shelf.old) docs.old names size → IfOk result (λ more.
         AreGathered (S.documents shelf.old) docs.new (with_name names name.now) (size + more)) }
-    ensures few { IfOk result (λ more. more ≤ 33554432) }
+    ensures few { IfOk result (λ more. more ≤ largest_document) }
     ensures same { S.documents shelf.new ≡ S.documents shelf.old }
     ensures later { S.fault_count shelf.old ≤ S.fault_count shelf.new }
     ensures fault { IsErrOf result ShelfFault.Failed → HasRisen (S.fault_count shelf.old) (S.fault_count shelf.new) }

@@ -1,5 +1,6 @@
 pub mod Documents
 pub mod Faults
+pub mod Limits
 pub mod Memory
 pub mod Outside
 pub mod Plans

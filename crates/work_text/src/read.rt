@@ -8,6 +8,7 @@ ghost use Rattle.work_text.specs.declared.read.WorkFault.TheVariants.{NoMemory a
 ghost use Rattle.work_text.specs.Faults.{IsWorkFault, IsNoMemory};
 ghost use Rattle.work_text.specs.Work.{IsWork, is_skipped};
 ghost use Rattle.work_text.specs.WorkReading.{WorkGoesOn, CannotGoOn};
+ghost use Rattle.work_text.specs.Limits.{largest_work};
 
 use crate::read_line::{is_header, line_of};
 use crate::work::{Line, Work};
@@ -51,7 +52,7 @@ impl<T: Drop> From<AllocFailed<T>> for WorkFault {
 
 /// Reads the text of a work.
 pub fn read_work(alloc: Global, bytes: &[u8]) -> Result<Work, WorkFault>
-    requires { length bytes.now ≤ 1048576 }
+    requires { length bytes.now ≤ largest_work }
     ensures found { IfOk result (IsWork bytes.now) }
     // A text is that of no other work.
     ensures only { (work : Parsed) → IsWork bytes.now work → MatchResult result (λ found. found ≡ work) IsNoMemory }
