@@ -1,0 +1,9 @@
+pub mod Families
+pub mod Flushing
+pub mod Gathering
+pub mod Has
+pub mod Left
+pub mod Lists
+pub mod Marking
+pub mod Sizes
+pub mod Storing

@@ -1,0 +1,7 @@
+pub mod Faults
+pub mod Groups
+pub mod Held
+pub mod Journals
+pub mod Marks
+pub mod Rooms
+pub mod Stores
