@@ -1,0 +1,9 @@
+pub mod Books
+pub mod Holds
+pub mod Ledgers
+pub mod Pins
+pub mod Puts
+pub mod Records
+pub mod Resolving
+pub mod Rooms
+pub mod Steps
