@@ -1,0 +1,10 @@
+pub mod Calling
+pub mod Choosing
+pub mod Counting
+pub mod Cutting
+pub mod Ends
+pub mod Filling
+pub mod Joins
+pub mod Merges
+pub mod Passages
+pub mod Stepping

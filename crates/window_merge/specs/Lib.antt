@@ -1,0 +1,5 @@
+pub mod Choosing
+pub mod Merging
+pub mod Parting
+pub mod Together
+pub mod Values
