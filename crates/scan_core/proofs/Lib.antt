@@ -1,0 +1,3 @@
+mod Distinct
+mod Keys
+mod Taking
