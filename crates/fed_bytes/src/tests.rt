@@ -2,17 +2,6 @@ use super::*;
 use std::test::Fail;
 
 #[test]
-fn keys_keep_their_bytes_and_their_order(rt: HostRuntime) -> Result<(), Fail> {
-    let key = Key::of(rt.alloc(), b"ab")?;
-    assert_eq!(rt; key.bytes(), b"ab".as_slice());
-    assert!(rt; key == key.copy(rt.alloc())?);
-    assert!(rt; key == Key::from_bytes(vec![in rt.alloc(); 97u8, 98]?));
-    assert!(rt; key < Key::of(rt.alloc(), b"b")?);
-    assert!(rt; Key::of(rt.alloc(), b"a")? < key);
-    Ok(())
-}
-
-#[test]
 fn the_end_of_a_prefix_is_its_last_byte_below_ff_one_higher(rt: HostRuntime) -> Result<(), Fail> {
     let span = Span::of_prefix(rt.alloc(), b"\x61\xff")?;
     assert_eq!(rt; span.left.bytes(), b"\x61\xff".as_slice());

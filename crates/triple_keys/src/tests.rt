@@ -1,5 +1,4 @@
 use super::*;
-use std::cmp::Ordering;
 use std::test::Fail;
 
 const IDS: Ids = Ids {
@@ -29,14 +28,6 @@ fn keys_have_their_worked_bytes(rt: HostRuntime) -> Result<(), Fail> {
 }
 
 #[test]
-fn ids_are_read_back(rt: HostRuntime) -> Result<(), Fail> {
-    let key = key_of(rt.alloc(), Order::Osp, IDS)?;
-    assert!(rt; ids_of(Order::Osp, key.bytes()) == Some(IDS));
-    assert!(rt; ids_of(Order::Osp, b"short").is_none());
-    Ok(())
-}
-
-#[test]
 fn spans_have_the_keys_of_the_bound_ids(rt: HostRuntime) -> Result<(), Fail> {
     let bound = Bound {
         subject: Some(1),
@@ -49,16 +40,4 @@ fn spans_have_the_keys_of_the_bound_ids(rt: HostRuntime) -> Result<(), Fail> {
     let other = Ids { subject: 2, ..IDS };
     assert!(rt; !span.contains(key_of(rt.alloc(), Order::Osp, other)?.bytes()));
     Ok(())
-}
-
-#[test]
-fn keys_stand_as_their_ids(rt: HostRuntime) {
-    let high = Ids {
-        subject: 256,
-        predicate: 2,
-        object: 2,
-    };
-    assert_eq!(rt; compare(Order::Spo, &IDS, &high), Ordering::Less);
-    assert_eq!(rt; compare(Order::Osp, &IDS, &high), Ordering::Greater);
-    assert_eq!(rt; compare(Order::Pos, &IDS, &IDS), Ordering::Equal);
 }
