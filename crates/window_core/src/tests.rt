@@ -28,34 +28,11 @@ fn row(alloc: Global, key: &[u8], time: u64, value: &[u8]) -> Result<Row, Want>
     })
 }
 
-fn deleted(alloc: Global, key: &[u8], time: u64) -> Result<Row, Want>
-    ensures { IfOk result (λ made. (made.key ≡ key.now) × (made.time ≡ time)) }
-{
-    let key = Key::of(alloc, key)?;
-    Ok(Row {
-        key,
-        time,
-        cell: Cell::Deleted,
-    })
-}
-
 /// A change of one row.
 fn change(alloc: Global, row: Row) -> Result<Rows, Want>
     ensures { IfOk result (AreChanges row.time) }
 {
     Ok(Rows::of(vec![in alloc; row]?))
-}
-
-#[test]
-fn an_index_a_cell_and_a_row_are_as_they_were_made(rt: HostRuntime) -> Result<(), Fail> {
-    let one = row(rt.alloc(), b"a", 1, b"x")?;
-    assert!(rt; one == one.copy(rt.alloc())?);
-    assert!(rt; Cell::Deleted == Cell::Deleted.copy(rt.alloc())?);
-    assert!(rt; Index::Spo != Index::Pos);
-    let rows = Rows::of(vec![in rt.alloc(); one]?);
-    assert_eq!(rt; rows.items().len(), 1);
-    assert_eq!(rt; rows.into_items().len(), 1);
-    Ok(())
 }
 
 /// A window over the keys from this one on, with no rows.
@@ -82,18 +59,6 @@ fn put(
     add(alloc, live, row(alloc, key, time, value)?)
 }
 
-/// Whether the last row of the key at the time is this one.
-fn last_is(
-    alloc: Global,
-    live: &LiveWindow,
-    key: &[u8],
-    t: u64,
-    wanted: Option<Row>,
-) -> Result<bool, WindowFault> {
-    let found = live.last(alloc, &mut NoDisk::new(), key, t)?;
-    Ok(found == wanted)
-}
-
 /// How many rows the first so many keys from this one on have, if the next key is this one.
 fn rows_before(
     alloc: Global,
@@ -113,26 +78,6 @@ fn rows_before(
 }
 
 #[test]
-fn a_live_window_has_the_rows_that_are_added(rt: HostRuntime) -> Result<(), Fail> {
-    let alloc = rt.alloc();
-    let mut live = window_from(alloc, b"b")?;
-    assert!(rt; live.is_empty());
-    put(alloc, &mut live, b"b", 1, b"x")?;
-    assert!(rt; !live.is_empty());
-    put(alloc, &mut live, b"c", 2, b"y")?;
-    put(alloc, &mut live, b"b", 3, b"z")?;
-    put(alloc, &mut live, b"a", 4, b"w")?;
-    assert_eq!(rt; live.from(), 0);
-    assert_eq!(rt; live.upto(), 4);
-    assert_eq!(rt; live.floor(), 0);
-    assert!(rt; last_is(alloc, &live, b"b", 2, Some(row(alloc, b"b", 1, b"x")?))?);
-    assert!(rt; last_is(alloc, &live, b"b", 4, Some(row(alloc, b"b", 3, b"z")?))?);
-    assert!(rt; last_is(alloc, &live, b"b", 0, None)?);
-    assert!(rt; last_is(alloc, &live, b"a", 4, None)?);
-    Ok(())
-}
-
-#[test]
 fn a_chunk_has_whole_keys_and_names_the_next(rt: HostRuntime) -> Result<(), Fail> {
     let alloc = rt.alloc();
     let mut live = window_from(alloc, b"a")?;
@@ -142,19 +87,6 @@ fn a_chunk_has_whole_keys_and_names_the_next(rt: HostRuntime) -> Result<(), Fail
     let next = Some(Key::of(alloc, b"c")?);
     assert_eq!(rt; rows_before(alloc, &live, b"a", 1, next)?, Some(2));
     assert_eq!(rt; rows_before(alloc, &live, b"a", 2, None)?, Some(3));
-    Ok(())
-}
-
-#[test]
-fn the_last_row_stands_in_any_run(rt: HostRuntime) -> Result<(), Fail> {
-    let alloc = rt.alloc();
-    let mut live = window_from(alloc, b"a")?;
-    put(alloc, &mut live, b"d", 1, b"")?;
-    add(alloc, &mut live, deleted(alloc, b"b", 2)?)?;
-    assert!(rt; last_is(alloc, &live, b"b", 4, Some(deleted(alloc, b"b", 2)?))?);
-    assert!(rt; last_is(alloc, &live, b"d", 9, Some(row(alloc, b"d", 1, b"")?))?);
-    let next = Some(Key::of(alloc, b"d")?);
-    assert_eq!(rt; rows_before(alloc, &live, b"", 1, next)?, Some(1));
     Ok(())
 }
 
