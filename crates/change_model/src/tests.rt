@@ -111,13 +111,6 @@ fn one(alloc: Global, statement: Statement) -> Result<List<Statement>, Want> {
     Ok(List::of(statements))
 }
 
-fn two(alloc: Global, first: Statement, second: Statement) -> Result<List<Statement>, Want> {
-    let mut statements = Vec::new(alloc);
-    statements.push(first)?;
-    statements.push(second)?;
-    Ok(List::of(statements))
-}
-
 fn node(alloc: Global, at: u64) -> Result<Term, Want> {
     let label = Text::of(alloc, "x")?;
     Ok(Term::Blank { at, label })
@@ -177,32 +170,12 @@ fn an_add_gives_ids_from_1(rt: HostRuntime) -> Result<(), Fail> {
 }
 
 #[test]
-fn a_statement_that_stands_twice_has_one_row(rt: HostRuntime) -> Result<(), Fail> {
-    let statements = same(rt.alloc(), 2)?;
-    let ids = [Some(1), Some(2), Some(3)];
-    let entry = entry_for(rt.alloc(), Kind::Add, statements, ids, 3)?;
-    assert_eq!(rt; entry.spo.items().len(), 1);
-    assert!(rt; begins_with(&entry.spo, SPO_1_2_3, Some(b"")));
-    Ok(())
-}
-
-#[test]
 fn a_remove_marks_a_statement_of_known_terms(rt: HostRuntime) -> Result<(), Fail> {
     let statements = same(rt.alloc(), 1)?;
     let ids = [Some(1), Some(2), Some(3)];
     let entry = entry_for(rt.alloc(), Kind::Remove, statements, ids, 3)?;
     assert!(rt; entry.t2i.items().is_empty());
     assert!(rt; begins_with(&entry.spo, SPO_1_2_3, None));
-    Ok(())
-}
-
-#[test]
-fn a_remove_of_an_unknown_term_gives_no_row(rt: HostRuntime) -> Result<(), Fail> {
-    let statements = same(rt.alloc(), 1)?;
-    let ids = [None, Some(2), Some(3)];
-    let entry = entry_for(rt.alloc(), Kind::Remove, statements, ids, 3)?;
-    assert!(rt; entry.t2i.items().is_empty());
-    assert!(rt; entry.spo.items().is_empty());
     Ok(())
 }
 
@@ -223,36 +196,6 @@ fn a_label_is_bound_at_the_time(rt: HostRuntime) -> Result<(), Fail> {
 }
 
 #[test]
-fn rows_stand_by_the_positions_of_their_order(rt: HostRuntime) -> Result<(), Fail> {
-    let first = statement(rt.alloc(), "a", iri(rt.alloc(), "b")?)?;
-    let second = statement(rt.alloc(), "b", iri(rt.alloc(), "a")?)?;
-    let statements = two(rt.alloc(), first, second)?;
-    let ids = [Some(1), Some(2), Some(3)];
-    let entry = entry_for(rt.alloc(), Kind::Add, statements, ids, 3)?;
-    assert!(rt; begins_with(&entry.spo, SPO_1_2_3, Some(b"")));
-    assert!(rt;
-        begins_with(
-            &entry.osp,
-            b"\0\0\0\0\0\0\0\x01\0\0\0\0\0\0\0\x03\0\0\0\0\0\0\0\x02",
-            Some(b"")
-        )
-    );
-    Ok(())
-}
-
-#[test]
-fn a_label_of_two_times_is_one_node(rt: HostRuntime) -> Result<(), Fail> {
-    let first = statement(rt.alloc(), "a", node(rt.alloc(), 0)?)?;
-    let second = statement(rt.alloc(), "a", node(rt.alloc(), 3)?)?;
-    let statements = two(rt.alloc(), first, second)?;
-    let ids = vec![in rt.alloc(); Some(1), Some(2), None, None]?;
-    let entry = entry_with(rt.alloc(), Kind::Add, statements, ids, 2)?;
-    assert_eq!(rt; entry.terms, 3);
-    assert_eq!(rt; entry.spo.items().len(), 1);
-    Ok(())
-}
-
-#[test]
 fn a_term_has_the_id_that_a_later_entry_gave(rt: HostRuntime) -> Result<(), Fail> {
     let later = first_entry(rt.alloc())?;
     let statement = triple(rt.alloc(), "http://e/new", "http://e/q", "http://e/b")?;
@@ -266,15 +209,5 @@ fn a_term_has_the_id_that_a_later_entry_gave(rt: HostRuntime) -> Result<(), Fail
             Some(b"")
         )
     );
-    Ok(())
-}
-
-#[test]
-fn a_remove_marks_a_statement_that_a_later_entry_added(rt: HostRuntime) -> Result<(), Fail> {
-    let later = first_entry(rt.alloc())?;
-    let statement = triple(rt.alloc(), "http://e/a", "http://e/p", "http://e/new")?;
-    let entry = entry_since(rt.alloc(), Kind::Remove, statement, &later, 3, 2)?;
-    assert_eq!(rt; entry.terms, 3);
-    assert!(rt; begins_with(&entry.spo, SPO_1_2_3, None));
     Ok(())
 }
