@@ -1,10 +1,9 @@
 ghost use Rattle.std.specs.Prelude.{◌≡◌, ◌<◌, ◌^◌, length, IfOk};
 
 use super::*;
-use base_core::{List, Text, Want, put_u32};
+use base_core::{Text, Want, put_u32};
 use change_model::{Change, Kind};
 use std::alloc::Global;
-use std::sync::Arc;
 use std::test::Fail;
 use term_core::{Statement, Term};
 
@@ -15,9 +14,6 @@ const WORKED: &[u8] =
 /// The body of the Add of `_:a <e:p> "x"@en . _:a <e:p> "y"^^<e:d> . _:b <e:p> _:a .`
 const KINDS: &[u8] =
     b"\x01\x01\0\0\0\x05\0\0\0\x0a\x04\0\0\0\0\0\0\0\0a\0\0\0\x04\x01e:p\0\0\0\x08\x03\0\0\0\x01xen\0\0\0\x09\x02\0\0\0\x01ye:d\0\0\0\x0a\x04\0\0\0\0\0\0\0\0b\0\0\0\x03\0\0\0\0\0\0\0\x01\0\0\0\x02\0\0\0\0\0\0\0\x01\0\0\0\x03\0\0\0\x04\0\0\0\x01\0\0\0\0";
-
-/// The body of the Remove of `<e:p> <e:p> <e:p> .`
-const REMOVED: &[u8] = b"\x01\x02\0\0\0\x01\0\0\0\x04\x01e:p\0\0\0\x01\0\0\0\0\0\0\0\0\0\0\0\0";
 
 /// The body read and written again.
 fn written_again(alloc: Global, bytes: &[u8]) -> Result<Vec<u8>, BodyFault>
@@ -91,21 +87,6 @@ fn all_kinds_of_terms_are_written_as_they_were_read(rt: HostRuntime) -> Result<(
 }
 
 #[test]
-fn a_remove_is_written_as_it_was_read(rt: HostRuntime) -> Result<(), Fail> {
-    assert_eq!(rt; read_body(rt.alloc(), REMOVED)?.kind, Kind::Remove);
-    assert_eq!(rt; written_again(rt.alloc(), REMOVED)?.as_slice(), REMOVED);
-    Ok(())
-}
-
-#[test]
-fn a_change_may_be_empty(rt: HostRuntime) -> Result<(), Fail> {
-    let empty = b"\x01\x02\0\0\0\0\0\0\0\0".as_slice();
-    assert_eq!(rt; count(rt.alloc(), empty), Some(0));
-    assert_eq!(rt; written_again(rt.alloc(), empty)?.as_slice(), empty);
-    Ok(())
-}
-
-#[test]
 fn a_body_that_ends_early_is_bad_at_the_field_that_is_short(rt: HostRuntime) {
     assert!(rt; is_bad_cut(rt.alloc(), WORKED, 0, 0));
     assert!(rt; is_bad_cut(rt.alloc(), WORKED, 1, 1));
@@ -122,14 +103,6 @@ fn a_body_that_ends_early_is_bad_at_the_field_that_is_short(rt: HostRuntime) {
 }
 
 #[test]
-fn a_bad_head_is_named_at_its_offset(rt: HostRuntime) -> Result<(), Fail> {
-    assert!(rt; is_bad_with(rt.alloc(), WORKED, 0, 2, 0)?);
-    assert!(rt; is_bad_with(rt.alloc(), WORKED, 1, 0, 1)?);
-    assert!(rt; is_bad_with(rt.alloc(), WORKED, 1, 3, 1)?);
-    Ok(())
-}
-
-#[test]
 fn a_bad_term_is_named_at_its_spelling(rt: HostRuntime) -> Result<(), Fail> {
     // No term is spelled so, for its kind and for a space in its IRI.
     assert!(rt; is_bad_with(rt.alloc(), WORKED, 10, 5, 10)?);
@@ -139,16 +112,6 @@ fn a_bad_term_is_named_at_its_spelling(rt: HostRuntime) -> Result<(), Fail> {
     // A blank node has a time, and one stands in a Remove.
     assert!(rt; is_bad_with(rt.alloc(), KINDS, 18, 1, 10)?);
     assert!(rt; is_bad_with(rt.alloc(), KINDS, 1, 2, 10)?);
-    Ok(())
-}
-
-#[test]
-fn a_bad_count_of_statements_is_named_at_its_offset(rt: HostRuntime) -> Result<(), Fail> {
-    // There may be 100,000 statements, so that the second one is short, and no more.
-    let most =
-        b"\x01\x02\0\0\0\x01\0\0\0\x04\x01e:p\0\x01\x86\xa0\0\0\0\0\0\0\0\0\0\0\0\0".as_slice();
-    assert!(rt; is_bad_at(rt.alloc(), most, 30));
-    assert!(rt; is_bad_with(rt.alloc(), most, 17, 0xa1, 14)?);
     Ok(())
 }
 
@@ -167,24 +130,6 @@ fn a_bad_statement_is_named_at_its_offset(rt: HostRuntime) -> Result<(), Fail> {
 }
 
 #[test]
-fn a_term_that_is_never_used_is_a_fault_of_the_count_of_statements(
-    rt: HostRuntime,
-) -> Result<(), Fail> {
-    assert!(rt; is_bad_with(rt.alloc(), WORKED, 66, 1, 51)?);
-    Ok(())
-}
-
-#[test]
-fn a_byte_too_many_is_named_at_its_offset(rt: HostRuntime) -> Result<(), Fail> {
-    let mut longer = WORKED.to_vec(rt.alloc())?;
-    longer.push(0)?;
-    assert!(rt; is_bad_at(rt.alloc(), &longer, 67));
-    // A term that is never used comes before it.
-    assert!(rt; is_bad_with(rt.alloc(), &longer, 66, 1, 51)?);
-    Ok(())
-}
-
-#[test]
 fn faults_are_printed(rt: HostRuntime) -> Result<(), Fail> {
     let bad = BodyFault::BadBody { at: 10 };
     assert_eq!(rt;
@@ -193,23 +138,6 @@ fn faults_are_printed(rt: HostRuntime) -> Result<(), Fail> {
     );
     let want = BodyFault::from(Want::NoMemory);
     assert_eq!(rt; format!(in rt.alloc(); "{want}")?.as_str(), "no memory");
-    Ok(())
-}
-
-#[test]
-fn those_who_wait_for_a_body_share_its_bytes(rt: HostRuntime) -> Result<(), Fail> {
-    let body = Arc::new(rt.alloc(), List::of(WORKED.to_vec(rt.alloc())?))?;
-    let ticket = Ticket {
-        home: 1,
-        serial: 1,
-        body: Arc::try_clone(&body)?,
-    };
-    let receipt = Receipt {
-        home: ticket.home,
-        body: 1,
-        spelling: body,
-    };
-    assert_eq!(rt; receipt.spelling.items(), ticket.body.items());
     Ok(())
 }
 
