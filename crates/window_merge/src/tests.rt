@@ -102,20 +102,6 @@ fn three(alloc: Global) -> Result<Vec<LiveWindow>, Want>
     Ok(vec![in alloc; first, second, third]?)
 }
 
-/// The same rows in one window.
-fn one(alloc: Global) -> Result<LiveWindow, Want> {
-    let window = window(
-        alloc,
-        0,
-        row(alloc, b"a", 1, b"1")?,
-        row(alloc, b"b", 2, b"2")?,
-    )?;
-    let window = add(alloc, window, row(alloc, b"a", 3, b"3")?)?;
-    let window = add(alloc, window, row(alloc, b"c", 4, b"4")?)?;
-    let window = add(alloc, window, deleted(alloc, b"b", 5)?)?;
-    add(alloc, window, row(alloc, b"d", 6, b"6")?)
-}
-
 /// Each row's key and value, and behind them the next key.
 fn told(alloc: Global, chunk: &Chunk) -> Result<Vec<u8>, Want> {
     let mut out = Vec::new(alloc);
@@ -169,22 +155,6 @@ fn values_in(
     Ok(told(alloc, &chunk)?)
 }
 
-/// Whether three windows and one answer the same.
-fn agree(
-    alloc: Global,
-    windows: &[LiveWindow],
-    one: &LiveWindow,
-    key: &[u8],
-    most: u32,
-) -> Result<bool, WindowFault>
-    requires adjacent { AreAdjacent ⟦<LiveWindow as Window>⟧.span ⟦<LiveWindow as Window>⟧.from ⟦<LiveWindow as Window>⟧.upto (record { left = []; right = None }) 0 windows.now 6 }
-    requires most { 1 ≤ most }
-{
-    let mut disk = NoDisk::new();
-    let whole = one.chunk(alloc, &mut disk, key, most)?;
-    Ok(chunk_at(alloc, windows, key, most)?.as_slice() == told(alloc, &whole)?.as_slice())
-}
-
 /// The value of the first key with one, of so many.
 fn first_of(
     alloc: Global,
@@ -213,43 +183,6 @@ fn rows_of_newer_windows_stand_first(rt: HostRuntime) -> Result<(), Fail> {
     assert_eq!(rt; rest.as_slice(), b"b-b2c4d6|".as_slice());
     let none = chunk_at(rt.alloc(), &windows, b"e", 1)?;
     assert_eq!(rt; none.as_slice(), b"|".as_slice());
-    Ok(())
-}
-
-#[test]
-fn one_key_at_a_time_goes_over_each_once(rt: HostRuntime) -> Result<(), Fail> {
-    let windows = three(rt.alloc())?;
-    let first = chunk_at(rt.alloc(), &windows, b"", 1)?;
-    assert_eq!(rt; first.as_slice(), b"a3a1|b".as_slice());
-    let second = chunk_at(rt.alloc(), &windows, b"b", 1)?;
-    assert_eq!(rt; second.as_slice(), b"b-b2|c".as_slice());
-    let last = chunk_at(rt.alloc(), &windows, b"d", 1)?;
-    assert_eq!(rt; last.as_slice(), b"d6|".as_slice());
-    Ok(())
-}
-
-#[test]
-fn three_windows_answer_as_one_with_all_rows(rt: HostRuntime) -> Result<(), Fail> {
-    let windows = three(rt.alloc())?;
-    let whole = one(rt.alloc())?;
-    assert!(rt; agree(rt.alloc(), &windows, &whole, b"", 1)?);
-    assert!(rt; agree(rt.alloc(), &windows, &whole, b"", 3)?);
-    assert!(rt; agree(rt.alloc(), &windows, &whole, b"a", 4)?);
-    assert!(rt; agree(rt.alloc(), &windows, &whole, b"aa", 2)?);
-    assert!(rt; agree(rt.alloc(), &windows, &whole, b"c", 9)?);
-    Ok(())
-}
-
-#[test]
-fn values_are_those_of_the_time(rt: HostRuntime) -> Result<(), Fail> {
-    let windows = three(rt.alloc())?;
-    let span = all(rt.alloc())?;
-    let early = values_in(rt.alloc(), &windows, &span, 2, 9)?;
-    assert_eq!(rt; early.as_slice(), b"a1b2|".as_slice());
-    let late = values_in(rt.alloc(), &windows, &span, 6, 2)?;
-    assert_eq!(rt; late.as_slice(), b"a3|c".as_slice());
-    let none = values_in(rt.alloc(), &windows, &span, 0, 1)?;
-    assert_eq!(rt; none.as_slice(), b"|b".as_slice());
     Ok(())
 }
 
