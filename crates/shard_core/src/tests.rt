@@ -115,13 +115,3 @@ fn a_shard_shows_the_values_of_a_time(rt: HostRuntime) -> Result<(), Fail> {
     assert!(rt; shows(&shard, rt.alloc(), &inner, 2, 1, b"b|"));
     Ok(())
 }
-
-#[test]
-fn a_shard_is_behind_what_it_has_not_reached(rt: HostRuntime) -> Result<(), Fail> {
-    let shard = filled(rt.alloc())?;
-    let wide = span(rt.alloc(), b"a", b"z")?;
-    let late = told(rt.alloc(), &shard, &wide, 4, 1);
-    assert!(rt; matches!(late, Err(ShardFault::Behind { upto: 3 })));
-    assert!(rt; shard.line(7).number == 7 && shard.line(7).upto == 3);
-    Ok(())
-}
