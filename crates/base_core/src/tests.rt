@@ -1,15 +1,6 @@
 use super::*;
 use std::test::Fail;
 
-#[test]
-fn lists_keep_their_items(rt: HostRuntime) -> Result<(), Fail> {
-    let mut list = List::of(vec![in rt.alloc(); 1u8]?);
-    list.append(List::of(vec![in rt.alloc(); 2]?))?;
-    assert_eq!(rt; list.items(), [1, 2].as_slice());
-    assert_eq!(rt; list.into_items().len(), 2);
-    Ok(())
-}
-
 /// The lengths of the first line and of what is behind it.
 fn cut(text: &[u8], end: LineEnd) -> Option<(usize, usize)> {
     first_line(text, end).map(|(line, rest)| (line.len(), rest.len()))
@@ -33,15 +24,5 @@ fn numbers_are_eight_bytes(rt: HostRuntime) -> Result<(), Fail> {
     assert_eq!(rt; out.as_slice(), b"\x07\0\0\0\0\0\0\x01\x02".as_slice());
     assert_eq!(rt; get_u64(&out, 1), Some(258));
     assert_eq!(rt; get_u64(&out, 2), None);
-    Ok(())
-}
-
-#[test]
-fn lengths_are_four_bytes(rt: HostRuntime) -> Result<(), Fail> {
-    let mut out = vec![in rt.alloc(); 7u8]?;
-    put_u32(258, &mut out)?;
-    assert_eq!(rt; out.as_slice(), b"\x07\0\0\x01\x02".as_slice());
-    assert_eq!(rt; get_u32(&out, 1), Some(258));
-    assert_eq!(rt; get_u32(&out, 2), None);
     Ok(())
 }

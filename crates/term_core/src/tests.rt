@@ -19,29 +19,6 @@ fn blank(alloc: Global, at: u64) -> Result<Term, Want>
     Ok(Term::Blank { at, label })
 }
 
-#[test]
-fn equal_are_terms_of_one_kind_with_the_same_parts(rt: HostRuntime) -> Result<(), Fail> {
-    let one = iri(rt.alloc(), "a")?;
-    let first = blank(rt.alloc(), 1)?;
-    let second = blank(rt.alloc(), 2)?;
-    assert!(rt; one.equals(&one.copy(rt.alloc())?));
-    assert!(rt; !one.equals(&first));
-    assert!(rt; first.equals(&first.copy(rt.alloc())?));
-    assert!(rt; !first.equals(&second));
-    Ok(())
-}
-
-#[test]
-fn a_copied_statement_is_the_same(rt: HostRuntime) -> Result<(), Fail> {
-    let statement = Statement {
-        subject: iri(rt.alloc(), "a")?,
-        predicate: iri(rt.alloc(), "p")?,
-        object: blank(rt.alloc(), 1)?,
-    };
-    assert!(rt; statement.equals(&statement.copy(rt.alloc())?));
-    Ok(())
-}
-
 /// The bytes read as a term and spelled again.
 fn respelled(alloc: Global, bytes: &[u8]) -> Result<Vec<u8>, TermFault>
     requires { length bytes.now < 2 ^ 32 }
@@ -94,47 +71,6 @@ fn what_is_spelled_is_read(rt: HostRuntime) -> Result<(), Fail> {
 }
 
 #[test]
-fn bytes_without_a_kind_are_bad_at_their_start(rt: HostRuntime) {
-    assert_eq!(rt; fault(rt.alloc(), b""), Some(TermFault::BadTerm { at: 0 }));
-    assert_eq!(rt;
-        fault(rt.alloc(), b"\x05"),
-        Some(TermFault::BadTerm { at: 0 })
-    );
-    assert_eq!(rt;
-        fault(rt.alloc(), b"\0http://e/a"),
-        Some(TermFault::BadTerm { at: 0 })
-    );
-}
-
-#[test]
-fn a_bad_iri_is_named_at_its_offset(rt: HostRuntime) {
-    assert_eq!(rt;
-        fault(rt.alloc(), b"\x01http://e/ a"),
-        Some(TermFault::BadTerm { at: 1 })
-    );
-    assert_eq!(rt;
-        fault(rt.alloc(), b"\x01\xff"),
-        Some(TermFault::BadTerm { at: 1 })
-    );
-}
-
-#[test]
-fn a_bad_form_is_named_at_its_offset(rt: HostRuntime) {
-    assert_eq!(rt;
-        fault(rt.alloc(), b"\x02\0\0\0"),
-        Some(TermFault::BadTerm { at: 1 })
-    );
-    assert_eq!(rt;
-        fault(rt.alloc(), b"\x02\0\0\0\x04abc"),
-        Some(TermFault::BadTerm { at: 5 })
-    );
-    assert_eq!(rt;
-        fault(rt.alloc(), b"\x03\0\0\0\x01\xffen"),
-        Some(TermFault::BadTerm { at: 5 })
-    );
-}
-
-#[test]
 fn what_is_bad_behind_a_form_is_named_at_its_offset(rt: HostRuntime) {
     assert_eq!(rt;
         fault(rt.alloc(), b"\x02\0\0\0\x01xhttp://e/<"),
@@ -151,26 +87,6 @@ fn what_is_bad_behind_a_form_is_named_at_its_offset(rt: HostRuntime) {
     assert_eq!(rt;
         fault(rt.alloc(), b"\x03\0\0\0\x01x"),
         Some(TermFault::BadTerm { at: 6 })
-    );
-}
-
-#[test]
-fn a_bad_blank_node_is_named_at_its_offset(rt: HostRuntime) {
-    assert_eq!(rt;
-        fault(rt.alloc(), b"\x04\0\0\0\0\0\0\0"),
-        Some(TermFault::BadTerm { at: 1 })
-    );
-    assert_eq!(rt;
-        fault(rt.alloc(), b"\x04\0\0\0\0\0\0\0\x01"),
-        Some(TermFault::BadTerm { at: 9 })
-    );
-    assert_eq!(rt;
-        fault(rt.alloc(), b"\x04\0\0\0\0\0\0\0\x01a."),
-        Some(TermFault::BadTerm { at: 9 })
-    );
-    assert_eq!(rt;
-        fault(rt.alloc(), b"\x04\0\0\0\0\0\0\0\x01-a"),
-        Some(TermFault::BadTerm { at: 9 })
     );
 }
 
