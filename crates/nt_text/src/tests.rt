@@ -98,50 +98,6 @@ fn lines_end_anyhow(rt: HostRuntime) {
 }
 
 #[test]
-fn the_first_line_outside_the_grammar_is_named(rt: HostRuntime) {
-    let alloc = rt.alloc();
-    assert_eq!(rt;
-        read(
-            alloc,
-            b"<a:a> <a:p> <a:b> .\n<a:a> <a:p> <a:c> .\n<a:a> <a:p> <a:d>\n<a:a> <a:p> <a:e> .\n<a:a> <a:p> <a:f> .\n"
-        ),
-        line(3)
-    );
-    assert_eq!(rt; read(alloc, b"<a:a> <a:p> \"\\uD800\" ."), line(1));
-    assert_eq!(rt; read(alloc, b"\xef\xbb\xbf<a:a> <a:p> <a:b> ."), line(1));
-}
-
-#[test]
-fn hostile_lines_of_iris_are_refused(rt: HostRuntime) {
-    let alloc = rt.alloc();
-    assert_eq!(rt; read(alloc, b"<a:a> <a:p> ."), line(1));
-    assert_eq!(rt; read(alloc, b"<a:a> <a:p> <a:b> . ."), line(1));
-    assert_eq!(rt; read(alloc, b"<a:a b> <a:p> <a:b> ."), line(1));
-    assert_eq!(rt; read(alloc, b"<a:a> <a:p> <a:b ."), line(1));
-    assert_eq!(rt; read(alloc, b"<\xc3> <a:p> <a:b> ."), line(1));
-    assert_eq!(rt; read(alloc, b"<a:\\u0020> <a:p> <a:b> ."), line(1));
-    assert_eq!(rt; read(alloc, b"<a:\\t> <a:p> <a:b> ."), line(1));
-    assert_eq!(rt; read(alloc, b"<a:\\u004> <a:p> <a:b> ."), line(1));
-    assert_eq!(rt; read(alloc, b"\"a\" <a:p> <a:b> ."), line(1));
-    assert_eq!(rt; read(alloc, b"<a:a> _:p <a:b> ."), line(1));
-    assert_eq!(rt; read(alloc, b"<a:a> <a:p> <a:b> . # \xff"), line(1));
-}
-
-#[test]
-fn hostile_literals_are_refused(rt: HostRuntime) {
-    let alloc = rt.alloc();
-    assert_eq!(rt; read(alloc, b"<a:a> <a:p> \"a ."), line(1));
-    assert_eq!(rt; read(alloc, b"<a:a> <a:p> \"a\\x\" ."), line(1));
-    assert_eq!(rt; read(alloc, b"<a:a> <a:p> \"\\U00110000\" ."), line(1));
-    assert_eq!(rt; read(alloc, b"<a:a> <a:p> \"\xc3\\u00A9\" ."), line(1));
-    assert_eq!(rt; read(alloc, b"<a:a> <a:p> \"a\"@ ."), line(1));
-    assert_eq!(rt; read(alloc, b"<a:a> <a:p> \"a\"@en- ."), line(1));
-    assert_eq!(rt; read(alloc, b"<a:a> <a:p> \"a\"@e1 ."), line(1));
-    assert_eq!(rt; read(alloc, b"<a:a> <a:p> \"a\"^<a:t> ."), line(1));
-    assert_eq!(rt; read(alloc, b"<a:a> <a:p> \"a\"^^_:t ."), line(1));
-}
-
-#[test]
 fn labels_end_where_they_should(rt: HostRuntime) {
     let alloc = rt.alloc();
     assert_eq!(rt; read(alloc, b"_:a.b <a:p> _:a."), Ok(1));
@@ -205,42 +161,5 @@ fn a_file_as_people_have_it_is_read(rt: HostRuntime) -> Result<(), Fail> {
     assert!(rt; knows.object.equals(&blank(alloc, 0, "b0")?));
     assert!(rt; age.subject.equals(&blank(alloc, 0, "b0")?));
     assert!(rt; age.predicate.equals(&iri(alloc, "http://example.org/age")?));
-    Ok(())
-}
-
-/// A line of an IRI of so many bytes.
-fn line_of(alloc: Global, length: usize) -> Result<Vec<u8>, Fail> {
-    let mut bytes = Vec::new(alloc);
-    bytes.extend_from_slice(b"<a:a> <a:p> <")?;
-    for _ in 0..length {
-        bytes.push(b'a')?;
-    }
-    bytes.extend_from_slice(b"> .\n")?;
-    Ok(bytes)
-}
-
-#[test]
-fn too_long_a_term_is_named(rt: HostRuntime) -> Result<(), Fail> {
-    let alloc = rt.alloc();
-    let longest = line_of(alloc, 65534)?;
-    assert_eq!(rt; read(alloc, &longest), Ok(1));
-    let longer = line_of(alloc, 65535)?;
-    assert_eq!(rt; read(alloc, &longer), Err(DocFault::TooLong { line: 1 }));
-    Ok(())
-}
-
-#[test]
-fn too_many_statements_are_named(rt: HostRuntime) -> Result<(), Fail> {
-    let alloc = rt.alloc();
-    let mut bytes = Vec::new(alloc);
-    for _ in 0..100000 {
-        bytes.extend_from_slice(b"<a> <p> <b> .\n")?;
-    }
-    assert_eq!(rt; read(alloc, &bytes), Ok(100000));
-    bytes.extend_from_slice(b"<a> <p> <b> .\n")?;
-    assert_eq!(rt;
-        read(alloc, &bytes),
-        Err(DocFault::TooMany { line: 100001 })
-    );
     Ok(())
 }
