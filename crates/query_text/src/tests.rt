@@ -212,34 +212,6 @@ fn words_that_are_left_out_are_named(rt: HostRuntime) -> Result<(), Fail> {
     Ok(())
 }
 
-const WORDS_IN_OTHER_FORMS: &str = r#"
-out FILTER => SELECT * { §filter }
-out FILTER => SELECT * { §FiLtEr(1) }
-out FILTER => SELECT * { §FILTER.}
-out FILTER => SELECT * { §filter?x }
-at => SELECT * { §FILTERS }
-at => SELECT * { §FILTER_ }
-at => SELECT * { §FILTER1 }
-at => SELECT * { §FILTER: ?p ?o }
-at => SELECT * { §FILTER.x:y ?p ?o }
-at => SELECT * { ?FILTER ?p §}
-?FILTER ?p : ?FILTER ?p <FILTER> . => SELECT * { ?FILTER ?p <FILTER> }
-at => §UPDATE
-at => §SELECTED * { }
-at => §PREFIXES
-at => SELECT * { } §BY
-at => SELECT * { ?s ?p §TRUTH }
-at => SELECT §AS
-at => SELECT * { §NOT }
-"#;
-
-#[test]
-fn words_are_whole_words(rt: HostRuntime) -> Result<(), Fail> {
-    let wrong = wrong_lines(rt.alloc(), WORDS_IN_OTHER_FORMS)?;
-    assert!(rt; wrong.is_empty(), "{wrong}");
-    Ok(())
-}
-
 const STOPS: &str = r#"
 at => §
 at =>   → ¶ ↵ §

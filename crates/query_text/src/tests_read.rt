@@ -2,105 +2,6 @@
 use crate::tests::wrong_lines;
 use std::test::Fail;
 
-const SPACES: &str = r#"
-: => SELECT * WHERE { }
-: => select*{}
-: => SeLeCt*wHeRe{}
-: => SELECT*WHERE{}#the end
-: => #a¶SELECT#b↵*#c¶{→#d¶}
-?x : => SELECT?x{}
-?x : => SELECT#¶?x#¶{}
-?x ?y : => SELECT?x?y{}
-?x ?y : => SELECT$x$y{}
-?xWHERE : => SELECT?xWHERE{}
-at => §SELECTWHERE*{}
-at => SELECT*§WHEREx{}
-at => SELECT*WHERE§?x
-?s ?p ?o : ?s ?p ?o . => SELECT*{?s?p?o}
-?s ?p ?o : ?s ?p ?o . => SELECT*{?s?p?o.}
-?s ?p ?o : ?s ?p ?o . => SELECT*{?s?p?o#.¶}
-?s ?p ?o : ?s ?p ?o . ?s ?p ?o . => SELECT*{?s?p?o.?s?p?o}
-?s ?p ?o ?q ?r : ?s ?p ?o . ?s ?q ?r . => SELECT*{?s?p?o;?q?r}
-?s ?p ?o ?r : ?s ?p ?o . ?s ?p ?r . => SELECT*{?s?p?o,?r}
-: <a> <b> <c> . => SELECT*{<a><b><c>}
-?s ?o : ?s <http://www.w3.org/1999/02/22-rdf-syntax-ns#type> ?o . => SELECT*{?s a?o}
-?s : ?s <http://www.w3.org/1999/02/22-rdf-syntax-ns#type> <c> . => SELECT*{?s a<c>}
-at => SELECT*{?sa?o§}
-at => SELECT*{?s §ab<c>}
-at => SELECT*{?s §a:b<c>}
-at => §PREFIX:<a>SELECT*{}
-at => §PREFIXex:<a>SELECT*{}
-: => PREFIX :<a>SELECT*{}
-: => prefix#¶ex:<a>PREFIX ey:<b>SELECT*{}
-at => PREFIX §ex:SELECT*{}
-: <ab> <ac> <ad> . => PREFIX ex:<a>SELECT*{ex:b ex:c ex:d}
-: <ab> <c> <ad> . => PREFIX ex:<a>SELECT*{ex:b<c>ex:d}
-: <ab> <ac> "d" . => PREFIX ex:<a>SELECT*{ex:b ex:c"d"}
-at => PREFIX ex:<a>SELECT*{ex:b ex:c ex:d.ex:e §ex:f ex:g}
-: <ab> <ac> <ad> . <ae> <af> <ag> . => PREFIX ex:<a>SELECT*{ex:b ex:c ex:d. ex:e ex:f ex:g}
-"#;
-
-#[test]
-fn tokens_need_few_spaces(rt: HostRuntime) -> Result<(), Fail> {
-    let wrong = wrong_lines(rt.alloc(), SPACES)?;
-    assert!(rt; wrong.is_empty(), "{wrong}");
-    Ok(())
-}
-
-const RUNS: &str = r#"
-: "-1"^^<http://www.w3.org/2001/XMLSchema#integer> <http://www.w3.org/1999/02/22-rdf-syntax-ns#type> ".5"^^<http://www.w3.org/2001/XMLSchema#decimal> . "-1"^^<http://www.w3.org/2001/XMLSchema#integer> <http://www.w3.org/1999/02/22-rdf-syntax-ns#type> ".5"^^<http://www.w3.org/2001/XMLSchema#decimal> . => SELECT*{-1a.5.-1a.5.}
-: "-1"^^<http://www.w3.org/2001/XMLSchema#integer> <http://www.w3.org/1999/02/22-rdf-syntax-ns#type> ".5"^^<http://www.w3.org/2001/XMLSchema#decimal> . "-1"^^<http://www.w3.org/2001/XMLSchema#integer> <http://www.w3.org/1999/02/22-rdf-syntax-ns#type> ".5"^^<http://www.w3.org/2001/XMLSchema#decimal> . "-1"^^<http://www.w3.org/2001/XMLSchema#integer> <http://www.w3.org/1999/02/22-rdf-syntax-ns#type> ".5"^^<http://www.w3.org/2001/XMLSchema#decimal> . => SELECT*{-1a.5.-1a.5.-1a.5}
-: "-1"^^<http://www.w3.org/2001/XMLSchema#integer> <http://www.w3.org/1999/02/22-rdf-syntax-ns#type> ".5"^^<http://www.w3.org/2001/XMLSchema#decimal> . "-1"^^<http://www.w3.org/2001/XMLSchema#integer> <http://www.w3.org/1999/02/22-rdf-syntax-ns#type> ".5"^^<http://www.w3.org/2001/XMLSchema#decimal> . <xb> <http://www.w3.org/1999/02/22-rdf-syntax-ns#type> "1"^^<http://www.w3.org/2001/XMLSchema#integer> . => PREFIX ex:<x>SELECT*{-1a.5.-1a.5. ex:b a 1}
-: "-1"^^<http://www.w3.org/2001/XMLSchema#integer> <http://www.w3.org/1999/02/22-rdf-syntax-ns#type> ".5"^^<http://www.w3.org/2001/XMLSchema#decimal> . <xa> <http://www.w3.org/1999/02/22-rdf-syntax-ns#type> "1"^^<http://www.w3.org/2001/XMLSchema#integer> . => PREFIX :<x>SELECT*{-1a.5.:a a 1}
-: "-1"^^<http://www.w3.org/2001/XMLSchema#integer> <xb> ".5"^^<http://www.w3.org/2001/XMLSchema#decimal> . => PREFIX a.5.-1a:<x>SELECT*{-1a.5.-1a:b .5}
-at => SELECT*{-1§a.5.-1a.5:b}
-at => SELECT*{-1a.5.-1a.5.§-a}
-at => SELECT*{-1a.5.-1§ab.5.}
-"#;
-
-#[test]
-fn words_among_the_characters_of_a_prefix_are_told_from_it(rt: HostRuntime) -> Result<(), Fail> {
-    let wrong = wrong_lines(rt.alloc(), RUNS)?;
-    assert!(rt; wrong.is_empty(), "{wrong}");
-    Ok(())
-}
-
-const NUMBERS: &str = r#"
-?s ?p : ?s ?p "1"^^<http://www.w3.org/2001/XMLSchema#integer> . => SELECT*{?s?p 1}
-?s ?p : ?s ?p "1"^^<http://www.w3.org/2001/XMLSchema#integer> . => SELECT*{?s?p 1.}
-?s ?p : ?s ?p "1"^^<http://www.w3.org/2001/XMLSchema#integer> . ?s ?p "2"^^<http://www.w3.org/2001/XMLSchema#integer> . => SELECT*{?s?p 1.?s?p 2}
-?s ?p : ?s ?p "1"^^<http://www.w3.org/2001/XMLSchema#integer> . ?s ?p "2"^^<http://www.w3.org/2001/XMLSchema#integer> . => SELECT*{?s?p 1,2}
-?s ?p : ?s ?p "+1"^^<http://www.w3.org/2001/XMLSchema#integer> . => SELECT*{?s?p+1}
-?s ?p : ?s ?p "-0"^^<http://www.w3.org/2001/XMLSchema#integer> . => SELECT*{?s?p-0}
-?s ?p : ?s ?p "007"^^<http://www.w3.org/2001/XMLSchema#integer> . => SELECT*{?s?p 007}
-?s ?p : ?s ?p "1.5"^^<http://www.w3.org/2001/XMLSchema#decimal> . => SELECT*{?s?p 1.5}
-?s ?p : ?s ?p "1.50"^^<http://www.w3.org/2001/XMLSchema#decimal> . => SELECT*{?s?p 1.50.}
-?s ?p : ?s ?p ".5"^^<http://www.w3.org/2001/XMLSchema#decimal> . => SELECT*{?s?p.5}
-?s ?p : ?s ?p "-.5"^^<http://www.w3.org/2001/XMLSchema#decimal> . => SELECT*{?s?p -.5}
-?p : "1"^^<http://www.w3.org/2001/XMLSchema#integer> ?p "2"^^<http://www.w3.org/2001/XMLSchema#integer> . => SELECT*{1?p 2}
-at => SELECT*{?s?p 1.2§.3}
-at => SELECT*{?s?p 1§-1}
-at => SELECT*{?s?p 1§x}
-at => SELECT*{?s?p 1§e}
-at => SELECT*{?s?p 1§e+}
-at => SELECT*{?s?p 1.§e}
-at => SELECT*{?s?p.5.§.}
-out DOUBLE => SELECT*{?s?p §1e1x}
-?s ?p : ?s ?p "true"^^<http://www.w3.org/2001/XMLSchema#boolean> . => SELECT*{?s?p true}
-?s ?p : ?s ?p "true"^^<http://www.w3.org/2001/XMLSchema#boolean> . => SELECT*{?s?p TRUE.}
-?s ?p : ?s ?p "false"^^<http://www.w3.org/2001/XMLSchema#boolean> . => SELECT*{?s?p False}
-?p ?o : "true"^^<http://www.w3.org/2001/XMLSchema#boolean> ?p ?o . => SELECT*{true?p?o}
-at => SELECT*{?s?p §truefalse}
-at => SELECT*{?s?p §true:}
-"#;
-
-#[test]
-fn numbers_and_booleans_are_read(rt: HostRuntime) -> Result<(), Fail> {
-    let wrong = wrong_lines(rt.alloc(), NUMBERS)?;
-    assert!(rt; wrong.is_empty(), "{wrong}");
-    Ok(())
-}
-
 const STRINGS: &str = r#"
 ?s ?p : ?s ?p "a" . => SELECT*{?s?p"a"}
 ?s ?p : ?s ?p "a" . => SELECT*{?s?p'a'}
@@ -140,30 +41,6 @@ fn strings_and_iris_are_read(rt: HostRuntime) -> Result<(), Fail> {
     Ok(())
 }
 
-const ESCAPES: &str = r#"
-out \ => §\u0053ELECT * { }
-at => §S\u0045LECT * { }
-out ? => SELECT §?\u0061 { }
-out \ => SELECT ?a§\u0062 { }
-at => SELECT * { §_:\u0061 ?p ?o }
-out \ => SELECT * { _:a§\u0061 ?p ?o }
-out \ => SELECT * { ?s ?p 1§\u0030 }
-out \ => PREFIX ex:<a>SELECT * { ex:§\u0061 ?p ?o }
-out \ => PREFIX ex:<a>SELECT * { ex:b§\-c ?p ?o }
-out % => PREFIX ex:<a>SELECT * { ex:b§%20 ?p ?o }
-out \ => PREFIX §\u0061:<a>SELECT * { }
-out \ => SELECT * { ?s §\u0061 ?o }
-at => SELECT * { ?s ?p "a"§@\u0065n }
-out \ => SELECT *§\u007B }
-"#;
-
-#[test]
-fn escapes_stand_in_strings_and_iris_alone(rt: HostRuntime) -> Result<(), Fail> {
-    let wrong = wrong_lines(rt.alloc(), ESCAPES)?;
-    assert!(rt; wrong.is_empty(), "{wrong}");
-    Ok(())
-}
-
 const NAMES: &str = r#"
 ?b : ?a ?b ?c . => SELECT ?b { ?a ?b ?c }
 ?c ?a ?c : ?a ?b ?c . => SELECT ?c $a ?c { ?a ?b ?c }
@@ -190,35 +67,6 @@ at => SELECT*{_:a§:b ?p ?o}
 #[test]
 fn names_and_labels_are_numbered_by_first_appearance(rt: HostRuntime) -> Result<(), Fail> {
     let wrong = wrong_lines(rt.alloc(), NAMES)?;
-    assert!(rt; wrong.is_empty(), "{wrong}");
-    Ok(())
-}
-
-const PREFIXES: &str = r#"
-?p ?o : <bc> ?p ?o . => PREFIX ex:<a>PREFIX ex:<b>SELECT*{ex:c?p?o}
-: <cd> <bd> <ce> . => PREFIX ex:<a>PREFIX ey:<b>PREFIX ex:<c>SELECT*{ex:d ey:d ex:e}
-: <a> <ab> <ac> . => PREFIX :<a>SELECT*{: :b :c}
-: <a> <ab> <c> . => PREFIX ex:<>PREFIX :<a>SELECT*{: :b ex:c}
-: <ab> <ac> <ad> . => PREFIX é:<a>SELECT*{é:b é:c é:d}
-: <xb> <xc> <xd> . => PREFIX a.b-1:<x>SELECT*{a.b-1:b a.b-1:c a.b-1:d}
-: <xPREFIX> <xa> <xtrue> . => PREFIX select:<x>SELECT*{select:PREFIX select:a select:true}
-: <xa:b> <x:> <x1> . => PREFIX ex:<x>SELECT*{ex:a:b ex:: ex:1}
-: <x_> <xa-> <xa..b> . => PREFIX ex:<x>SELECT*{ex:_ ex:a- ex:a..b}
-: <xé> <x> <xa> . => PREFIX ex:<x>SELECT*{ex:é ex: ex:a.}
-at => PREFIX ex:<x>SELECT*{ex:b ex:c ex:d.§.}
-at => PREFIX ex:<x>SELECT*{ex:§-a ?p ?o}
-at => PREFIX ex:<x>SELECT*{ex:§·a ?p ?o}
-out / => PREFIX ex:<x>SELECT*{ex:a§/b ?p ?o}
-at => PREFIX §1:<x>SELECT*{}
-at => PREFIX §_:<x>SELECT*{}
-at => PREFIX §a.:<x>SELECT*{}
-at => PREFIX §-:<x>SELECT*{}
-at => PREFIX ex:<x>SELECT*{ex:a ex:b ex:c}§PREFIX ex:<y>
-"#;
-
-#[test]
-fn prefixes_are_resolved(rt: HostRuntime) -> Result<(), Fail> {
-    let wrong = wrong_lines(rt.alloc(), PREFIXES)?;
     assert!(rt; wrong.is_empty(), "{wrong}");
     Ok(())
 }
