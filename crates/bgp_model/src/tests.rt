@@ -132,38 +132,6 @@ fn prints(
     Ok(text.as_slice() == lines.as_bytes())
 }
 
-/// Whether one pattern over the statements with a repetition prints these lines.
-fn one_prints(alloc: Global, pattern: [&str; 3], lines: &str) -> Result<bool, Fail> {
-    prints(alloc, REPEATED, "xyz", &[pattern], lines)
-}
-
-#[test]
-fn one_pattern_has_the_rows_of_the_substitution(rt: HostRuntime) -> Result<(), Fail> {
-    let alloc = rt.alloc();
-    let all = "<e:a>\t<e:p>\t<e:b>\n<e:a>\t<e:p>\t<e:c>\n<e:c>\t<e:q>\t<e:c>\n";
-    assert!(rt; one_prints(alloc, ["?x", "?y", "?z"], all)?);
-    let predicates = "\t<e:p>\t\n\t<e:p>\t\n\t<e:q>\t\n";
-    assert!(rt; one_prints(alloc, ["_:a", "?y", "_:b"], predicates)?);
-    assert!(rt;
-        one_prints(
-            alloc,
-            ["e:a", "?y", "?z"],
-            "\t<e:p>\t<e:b>\n\t<e:p>\t<e:c>\n"
-        )?
-    );
-    assert!(rt; one_prints(alloc, ["e:a", "e:p", "e:b"], "\t\t\n")?);
-    assert!(rt; one_prints(alloc, ["e:a", "e:p", "e:d"], "")?);
-    Ok(())
-}
-
-#[test]
-fn a_repeated_variable_stands_for_one_term(rt: HostRuntime) -> Result<(), Fail> {
-    let alloc = rt.alloc();
-    assert!(rt; one_prints(alloc, ["?x", "?y", "?x"], "<e:c>\t<e:q>\t\n")?);
-    assert!(rt; one_prints(alloc, ["_:a", "?y", "_:a"], "\t<e:q>\t\n")?);
-    Ok(())
-}
-
 #[test]
 fn equal_rows_stand_as_often_as_they_come(rt: HostRuntime) -> Result<(), Fail> {
     let alloc = rt.alloc();
@@ -176,14 +144,6 @@ fn a_pattern_that_is_written_twice_counts_once(rt: HostRuntime) -> Result<(), Fa
     let alloc = rt.alloc();
     let twice = [["?x", "?y", "?z"], ["?x", "?y", "?z"]];
     assert!(rt; prints(alloc, TWO, "z", &twice, "<e:b>\n<e:c>\n")?);
-    Ok(())
-}
-
-#[test]
-fn no_patterns_have_one_row(rt: HostRuntime) -> Result<(), Fail> {
-    let alloc = rt.alloc();
-    assert!(rt; prints(alloc, TWO, "xyz", &[], "\t\t\n")?);
-    assert!(rt; prints(alloc, &[], "", &[], "\n")?);
     Ok(())
 }
 

@@ -76,11 +76,7 @@ const FRONTS: &[Option<u32>] = &[
     Some(1),
 ];
 
-const ALIKE: &[Option<u32>] = &[Some(1), Some(1), Some(0), Some(0), Some(7), None];
-
 const TWO_IRIS: &[&[u8]] = &[b"\x01b:", b"\x01a:"];
-
-const TWICE: &[&[u8]] = &[b"\x01a:", b"\x01a:"];
 
 const LITERALS: &[&[u8]] = &[
     b"\x03\0\0\0\x01xen",
@@ -104,40 +100,4 @@ fn a_front_stands_first(rt: HostRuntime) -> Result<(), Fail> {
         "before\n\"x\x01\"\t\"x\"\n\"x\"\t\"x\x01\"\n\"x\"@en\t\"x\"@en-gb\n\"x\"@en-gb\t\"x\"@en\n\
         \"x\"^^<a:b>\t\"x\"@en\n";
     expect(&rt, LITERALS, 2, 5, FRONTS, text)
-}
-
-/// Terms of one cell are one in the order, and a place without a term is unbound.
-#[test]
-fn equal_cells_have_one_rank(rt: HostRuntime) -> Result<(), Fail> {
-    expect(
-        &rt,
-        TWICE,
-        2,
-        3,
-        ALIKE,
-        "before\n\t\n<a:>\t<a:>\n<a:>\t<a:>\n",
-    )
-}
-
-/// Rows of no column have empty lines, and rows that want places are as short as they are.
-#[test]
-fn short_rows_have_lines(rt: HostRuntime) -> Result<(), Fail> {
-    expect(&rt, TWICE, 0, 3, ALIKE, "before\n\n\n\n")?;
-    expect(
-        &rt,
-        TWICE,
-        4,
-        3,
-        ALIKE,
-        "before\n\n\t\n<a:>\t<a:>\t<a:>\t<a:>\n",
-    )
-}
-
-#[test]
-fn a_draft_is_cut_back(rt: HostRuntime) -> Result<(), Fail> {
-    let mut draft = Draft::behind(Vec::from_slice(rt.alloc(), b"kept")?);
-    draft.append(b" and more")?;
-    draft.push(b'.')?;
-    assert_eq!(rt; draft.cut_back().as_slice(), b"kept".as_slice());
-    Ok(())
 }
