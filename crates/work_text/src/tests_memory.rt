@@ -66,21 +66,6 @@ fn expect_fault(rt: &(impl Abort + AllocGlobal), number: u64) -> Result<(), Fail
     Ok(())
 }
 
-/// Of two documents of one name the first is read.
-#[test]
-fn a_shelf_is_read(rt: HostRuntime) -> Result<(), Fail> {
-    let mut plain = shelf(&rt, Vec::new(rt.alloc()))?;
-    for (name, bytes) in [("a", "first"), ("b", ""), ("a", "first")] {
-        let found = whole(rt.alloc(), &mut plain, &Text::of(rt.alloc(), name)?)?;
-        let found = found.ok_or("not found")?;
-        assert_eq!(rt; found.as_slice(), bytes.as_bytes(), "under {name}");
-    }
-    let missing = whole(rt.alloc(), &mut plain, &Text::of(rt.alloc(), "c")?)?;
-    assert!(rt; missing.is_none());
-    assert_eq!(rt; plain.faults(), 0);
-    Ok(())
-}
-
 #[test]
 fn a_shelf_fails(rt: HostRuntime) -> Result<(), Fail> {
     for number in 1..7 {

@@ -76,27 +76,3 @@ fn works_are_read(rt: HostRuntime) -> Result<(), Fail> {
     }
     Ok(())
 }
-
-#[test]
-fn names_have_at_most_200_bytes(rt: HostRuntime) -> Result<(), Fail> {
-    let mut text = b"bigfed 1\n1 load a".as_slice().to_vec(rt.alloc())?;
-    for _ in 0..199 {
-        text.push(b'z')?;
-    }
-    assert_ne!(rt; read(rt.alloc(), &text)?.as_str(), "bad 2");
-    text.push(b'z')?;
-    assert_eq!(rt; read(rt.alloc(), &text)?.as_str(), "bad 2");
-    Ok(())
-}
-
-#[test]
-fn works_have_at_most_4096_commands(rt: HostRuntime) -> Result<(), Fail> {
-    let mut text = b"bigfed 1\n".as_slice().to_vec(rt.alloc())?;
-    for _ in 0..4096 {
-        text.extend_from_slice(b"1 load a\n")?;
-    }
-    assert_eq!(rt; read(rt.alloc(), &text)?.len(), 4096 * 9);
-    text.extend_from_slice(b"1 load a\n")?;
-    assert_eq!(rt; read(rt.alloc(), &text)?.as_str(), "bad 4098");
-    Ok(())
-}

@@ -94,18 +94,6 @@ fn expect(
     Ok(())
 }
 
-#[test]
-fn nothing_was_done(rt: HostRuntime) -> Result<(), Fail> {
-    let report = RunReport {
-        opened: 0,
-        outcomes: List::of(Vec::new(rt.alloc())),
-        origins: List::of(Vec::new(rt.alloc())),
-    };
-    let work = lines(rt.alloc(), &[])?;
-    expect(&rt, &report, &work, "opened 0\nhistory 0\n")?;
-    Ok(())
-}
-
 fn first_outcomes(alloc: Global) -> Result<List<Outcome>, Want> {
     let empty = answered(alloc, 10, &["s", "long_name"], table(alloc, &[], 2, &[])?)?;
     let outcomes = vec![in alloc;
@@ -190,33 +178,5 @@ fn refused_queries_are_printed_with_their_places(rt: HostRuntime) -> Result<(), 
     let text = "opened 0\nsession 1\n1 query refused query at 17\n\
         2 query refused query left out FILTER at 26\n3 query refused query left out { at 0\nhistory 0\n";
     expect(&rt, &report, &lines(alloc, &told)?, text)?;
-    Ok(())
-}
-
-/// A place without a term is printed as an unbound variable.
-#[test]
-fn rows_are_printed(rt: HostRuntime) -> Result<(), Fail> {
-    let alloc = rt.alloc();
-    let rows = table(
-        alloc,
-        &["http://e/b", "http://e/a"],
-        3,
-        &[&[Some(1), None, Some(0)], &[Some(0), Some(2), None]],
-    )?;
-    let answered = answered(alloc, 1, &["s", "p", "o"], rows)?;
-    let outcomes = vec![in alloc; Outcome::Changed { time: 1 }, answered]?;
-    let report = RunReport {
-        opened: 0,
-        outcomes: List::of(vec![in alloc; List::of(outcomes)]?),
-        origins: origins(alloc, &[(1, 1)])?,
-    };
-    let text = "opened 0\nsession 1\n1 load time 1\n2 query time 1 rows 2\n?s\t?p\t?o\n\
-        <http://e/a>\t\t<http://e/b>\n<http://e/b>\t\t\nhistory 1\n1 1 1\n";
-    expect(
-        &rt,
-        &report,
-        &lines(alloc, &[(1, "load"), (1, "query")])?,
-        text,
-    )?;
     Ok(())
 }
