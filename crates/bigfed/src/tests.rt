@@ -139,26 +139,6 @@ fn words_and_works_are_refused_by_name(rt: HostRuntime) -> Result<(), Fail> {
 }
 
 #[test]
-fn a_work_over_its_limit_is_refused(rt: HostRuntime) -> Result<(), Fail> {
-    let mut work = Vec::from_slice(rt.alloc(), b"#")?;
-    for _ in 0..20 {
-        let half = work.clone()?;
-        work.extend_from_slice(&half)?;
-    }
-    let mut exact = shelf(&rt, &work, b"", Vec::new(rt.alloc()))?;
-    expect(
-        &rt,
-        &["replay", "w.txt"],
-        &mut exact,
-        2,
-        "bad work line 2\n",
-    )?;
-    work.push(b'#')?;
-    let mut over = shelf(&rt, &work, b"", Vec::new(rt.alloc()))?;
-    expect(&rt, &["replay", "w.txt"], &mut over, 2, "work too large\n")
-}
-
-#[test]
 fn faults_of_the_shelf_are_counted(rt: HostRuntime) -> Result<(), Fail> {
     for call in 1..3u64 {
         let fails = vec![in rt.alloc(); call]?;

@@ -74,19 +74,6 @@ fn what_was_loaded_is_unloaded(rt: HostRuntime) -> Result<(), Fail> {
 }
 
 #[test]
-fn an_unload_of_an_unknown_triple_leaves_the_graph(rt: HostRuntime) -> Result<(), Fail> {
-    let work =
-        "bigfed 1\n1 load a.nt\n1 unload b.nt\n1 query SELECT * WHERE { ?s ?p ?o }\n1 load a.nt\n";
-    let mut documents = shelf(&rt, work, Vec::new(rt.alloc()))?;
-    expect(
-        &rt,
-        &mut documents,
-        0,
-        "opened 0\nsession 1\n1 load time 1\n2 unload time 2\n3 query time 2 rows 1\n?s\t?p\t?o\n<http://e/a>\t<http://e/p>\t<http://e/b>\n4 load time 3\nhistory 3\n1 1 1\n2 1 2\n3 1 4\n",
-    )
-}
-
-#[test]
 fn a_label_is_a_node_of_its_change(rt: HostRuntime) -> Result<(), Fail> {
     let work =
         "bigfed 1\n1 load label.nt\n1 load label.nt\n1 query SELECT ?s WHERE { ?s <http://e/p> ?o }\n";
@@ -96,18 +83,6 @@ fn a_label_is_a_node_of_its_change(rt: HostRuntime) -> Result<(), Fail> {
         &mut documents,
         0,
         "opened 0\nsession 1\n1 load time 1\n2 load time 2\n3 query time 2 rows 3\n?s\n<http://e/a>\n_:c1.x\n_:c2.x\nhistory 2\n1 1 1\n2 1 2\n",
-    )
-}
-
-#[test]
-fn an_unload_is_refused_by_name(rt: HostRuntime) -> Result<(), Fail> {
-    let work = "bigfed 1\n1 unload none.nt\n1 unload label.nt\n1 unload w.txt\n1 unload a.nt\n";
-    let mut documents = shelf(&rt, work, Vec::new(rt.alloc()))?;
-    expect(
-        &rt,
-        &mut documents,
-        1,
-        "opened 0\nsession 1\n1 unload refused no document\n2 unload refused label in removal line 2\n3 unload refused line 1\n4 unload time 1\nhistory 1\n1 1 4\n",
     )
 }
 

@@ -1,5 +1,5 @@
-//! Loads and queries over the five indexes.
-use crate::tests::{expect, expect_run};
+//! Loads and queries over the indexes.
+use crate::tests::expect_run;
 use base_core::{List, Text};
 use std::process::Abort;
 use std::test::Fail;
@@ -19,25 +19,6 @@ fn expect_query(rt: &(impl Abort + AllocGlobal), query: &str, answer: &str) -> R
 }
 
 #[test]
-fn one_position_may_be_bound(rt: HostRuntime) -> Result<(), Fail> {
-    expect_query(
-        &rt,
-        "SELECT * WHERE { <http://e/a> ?p ?o }",
-        "rows 2\n?p\t?o\n<http://e/p>\t<http://e/b>\n<http://e/q>\t<http://e/c>\n",
-    )?;
-    expect_query(
-        &rt,
-        "SELECT * WHERE { ?s <http://e/p> ?o }",
-        "rows 2\n?s\t?o\n<http://e/a>\t<http://e/b>\n<http://e/c>\t<http://e/b>\n",
-    )?;
-    expect_query(
-        &rt,
-        "SELECT * WHERE { ?s ?p <http://e/c> }",
-        "rows 1\n?s\t?p\n<http://e/a>\t<http://e/q>\n",
-    )
-}
-
-#[test]
 fn two_positions_may_be_bound(rt: HostRuntime) -> Result<(), Fail> {
     expect_query(
         &rt,
@@ -53,34 +34,6 @@ fn two_positions_may_be_bound(rt: HostRuntime) -> Result<(), Fail> {
         &rt,
         "SELECT ?s WHERE { ?s <http://e/p> <http://e/b> }",
         "rows 2\n?s\n<http://e/a>\n<http://e/c>\n",
-    )
-}
-
-#[test]
-fn all_positions_may_be_bound(rt: HostRuntime) -> Result<(), Fail> {
-    expect_query(
-        &rt,
-        "SELECT * WHERE { <http://e/c> <http://e/p> <http://e/b> }",
-        "rows 1\n\n\n",
-    )?;
-    expect_query(
-        &rt,
-        "SELECT * WHERE { <http://e/c> <http://e/q> <http://e/b> }",
-        "rows 0\n\n",
-    )
-}
-
-#[test]
-fn a_term_that_no_triple_has_gives_no_row(rt: HostRuntime) -> Result<(), Fail> {
-    expect_query(
-        &rt,
-        "SELECT ?s WHERE { ?s <http://e/p> <http://e/z> }",
-        "rows 0\n?s\n",
-    )?;
-    expect_query(
-        &rt,
-        "SELECT ?s WHERE { ?s <http://e/a> ?o }",
-        "rows 0\n?s\n",
     )
 }
 
@@ -103,23 +56,6 @@ pub(crate) fn shelf_of_two(
     let documents = vec![in alloc; work, first, second]?;
     assert_eq!(rt; names.len(), documents.len());
     Ok(MemoryShelf::make(alloc, List::of(names), List::of(documents), Vec::new(alloc))?)
-}
-
-#[test]
-fn documents_may_share_terms_and_triples(rt: HostRuntime) -> Result<(), Fail> {
-    let mut shelf = shelf_of_two(
-        &rt,
-        "bigfed 1\n1 load a.nt\n1 load b.nt\n1 query SELECT * WHERE { ?s <http://e/p> ?o }\n",
-        "<http://e/a> <http://e/p> <http://e/b> .\n",
-        "<http://e/b> <http://e/p> <http://e/a> .\n<http://e/a> <http://e/p> <http://e/b> .\n",
-    )?;
-    expect(
-        &rt,
-        &["replay", "w.txt"],
-        &mut shelf,
-        0,
-        "opened 0\nsession 1\n1 load time 1\n2 load time 2\n3 query time 2 rows 2\n?s\t?o\n<http://e/a>\t<http://e/b>\n<http://e/b>\t<http://e/a>\nhistory 2\n1 1 1\n2 1 2\n",
-    )
 }
 
 #[test]

@@ -32,36 +32,6 @@ fn patterns_may_make_a_chain_or_a_ring(rt: HostRuntime) -> Result<(), Fail> {
 }
 
 #[test]
-fn equal_rows_stand_as_often_as_they_come(rt: HostRuntime) -> Result<(), Fail> {
-    expect_query(
-        &rt,
-        "SELECT ?x { ?x e:p ?y . ?x e:p ?z }",
-        "rows 6\n?x\n<http://e/a>\n<http://e/a>\n<http://e/a>\n<http://e/a>\n<http://e/b>\n<http://e/d>\n",
-    )?;
-    expect_query(
-        &rt,
-        "SELECT ?p { _:x ?p _:y . _:y ?p _:z }",
-        "rows 2\n?p\n<http://e/p>\n<http://e/p>\n",
-    )
-}
-
-#[test]
-fn patterns_may_share_nothing(rt: HostRuntime) -> Result<(), Fail> {
-    expect_query(
-        &rt,
-        "SELECT ?x ?y { ?x e:q ?v . e:a ?y e:b }",
-        "rows 1\n?x\t?y\n<http://e/c>\t<http://e/p>\n",
-    )?;
-    expect_query(&rt, "SELECT * { }", "rows 1\n\n\n")
-}
-
-#[test]
-fn a_pattern_without_a_triple_ends_a_join(rt: HostRuntime) -> Result<(), Fail> {
-    expect_query(&rt, "SELECT ?x { ?x e:p ?y . ?y e:z ?x }", "rows 0\n?x\n")?;
-    expect_query(&rt, "SELECT ?x { ?x e:p ?y . ?x e:q ?y }", "rows 0\n?x\n")
-}
-
-#[test]
 fn a_join_reads_no_triple_that_was_taken_out(rt: HostRuntime) -> Result<(), Fail> {
     let mut shelf = shelf_of_two(
         &rt,
