@@ -55,10 +55,6 @@ fn flush(
     Ok(receipt.body)
 }
 
-fn fits(journal: &BodyJournal, ticket: &Ticket) -> bool {
-    ticket.body.items().len() <= 1000 && journal.fits(ticket)
-}
-
 /// Whether the file holds these bytes, which are fewer than 64, and no others.
 fn holds(disk: &mut MemoryDisk, bytes: &[u8]) -> bool {
     let mut out = [0u8; 64];
@@ -106,40 +102,6 @@ fn bodies_that_wait_are_one_record(rt: HostRuntime) -> Result<(), Fail> {
     Ok(())
 }
 
-/// What the first of two bodies gets whose record would just fit, or would not.
-fn at_limit(alloc: Global, limit: u64) -> Result<(bool, Result<u64, JournalFault>), Fail> {
-    let mut disk = disk_failing(alloc, None)?;
-    let mut room = journal(alloc, &mut disk, limit)?;
-    let ticket = queue(alloc, &mut room, bytes(alloc, 7, BODY_SIZE)?)?;
-    let fitted = fits(&room, &ticket);
-    Ok((fitted, flush(alloc, &mut room, &mut disk, ticket)))
-}
-
-#[test]
-fn a_record_ends_with_the_next_gate(rt: HostRuntime) -> Result<(), Fail> {
-    let alloc = rt.alloc();
-    let full = Err(JournalFault::Full { disk: 3 });
-    assert_eq!(rt; at_limit(alloc, 80)?, (false, full));
-    assert_eq!(rt; at_limit(alloc, 81)?, (true, Ok(1)));
-    Ok(())
-}
-
-#[test]
-fn a_fault_of_the_first_keeps_the_others_waiting(rt: HostRuntime) -> Result<(), Fail> {
-    let alloc = rt.alloc();
-    let fault = Err(JournalFault::DiskFault { disk: 3, count: 1 });
-    // The gate was not begun: the second stores itself and the third.
-    let mut disk = disk_failing(alloc, Some(4))?;
-    let mut room = journal(alloc, &mut disk, 1000)?;
-    assert_eq!(rt; three(alloc, &mut room, &mut disk)?, [fault, Ok(1), Ok(2)]);
-    // The gate was opened: a mend takes the group in, and the second is stored once more.
-    let mut disk = disk_failing(alloc, Some(7))?;
-    let mut room = journal(alloc, &mut disk, 1000)?;
-    assert_eq!(rt; three(alloc, &mut room, &mut disk)?, [fault, Ok(4), Ok(3)]);
-    assert_eq!(rt; room.stored(), 4);
-    Ok(())
-}
-
 /// What a flush gets whose k-th call fails, and how many records a crash then leaves: with what was written, and without.
 fn failing_at(alloc: Global, k: u64) -> Result<(Result<u64, JournalFault>, u64, u64), Fail> {
     let mut disk = disk_failing(alloc, Some(k))?;
@@ -183,28 +145,4 @@ fn a_second_group_goes_on_behind_the_first(rt: HostRuntime) -> Result<(), Fail> 
     assert_eq!(rt; second_group(alloc, 10)?, [fault, Ok(2), Ok(3)]);
     assert_eq!(rt; second_group(alloc, 11)?, [fault, Ok(5), Ok(4)]);
     Ok(())
-}
-
-#[test]
-fn two_bodies_are_stored_by_the_caller(rt: HostRuntime) -> Result<(), Fail> {
-    let alloc = rt.alloc();
-    let mut disk = disk_failing(alloc, None)?;
-    let mut room = journal(alloc, &mut disk, 1000)?;
-    let numbers = caller_of(alloc, &mut room, &mut disk)?;
-    assert_eq!(rt; numbers, Ok((1, 2)));
-    assert_eq!(rt; (room.home(), room.journals(), room.stored()), (3, 1, 2));
-    Ok(())
-}
-
-fn caller_of(
-    alloc: Global,
-    journal: &mut BodyJournal,
-    disk: &mut MemoryDisk,
-) -> Result<Result<(u64, u64), JournalFault>, Fail> {
-    let first = vec![in alloc; 1u8; 3]?;
-    let second = vec![in alloc; 2u8; 3]?;
-    if first.len() > 3 || second.len() > 3 {
-        return Err("the bodies are too long")?;
-    }
-    Ok(caller::store_both(alloc, journal, disk, first, second))
 }

@@ -153,36 +153,6 @@ fn a_put_whose_last_sync_failed_is_kept(rt: HostRuntime) -> Result<(), Fail> {
     Ok(())
 }
 
-#[test]
-fn a_mend_that_fails_commits_nothing(rt: HostRuntime) -> Result<(), Fail> {
-    let answers = [
-        Err(CommitFault::Unsure { count: 1 }),
-        Err(CommitFault::DiskFault { count: 2 }),
-        Ok(1),
-    ];
-    assert_eq!(rt;
-        three_loads(rt.alloc(), &[4, 5], AMPLE, MANY)?,
-        (answers, 1)
-    );
-    Ok(())
-}
-
-#[test]
-fn the_history_ends_at_its_most(rt: HostRuntime) -> Result<(), Fail> {
-    let answers = [Ok(1), Ok(2), Err(CommitFault::HistoryFull)];
-    assert_eq!(rt; three_loads(rt.alloc(), &[], AMPLE, 2)?, (answers, 2));
-    Ok(())
-}
-
-#[test]
-fn the_log_ends_at_its_limit(rt: HostRuntime) -> Result<(), Fail> {
-    let one = [Ok(1), Err(CommitFault::LogFull), Err(CommitFault::LogFull)];
-    assert_eq!(rt; three_loads(rt.alloc(), &[], 28, MANY)?, (one, 1));
-    let two = [Ok(1), Ok(2), Err(CommitFault::LogFull)];
-    assert_eq!(rt; three_loads(rt.alloc(), &[], 29, MANY)?, (two, 2));
-    Ok(())
-}
-
 /// Commits the load of a triple with this pin.
 fn commit_pinned(
     alloc: Global,

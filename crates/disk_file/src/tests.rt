@@ -63,13 +63,3 @@ fn a_removed_file_is_missing(rt: HostRuntime) -> Result<(), Fail> {
     fs::remove_dir_all(&rt, folder.as_str())?;
     Ok(())
 }
-
-#[test]
-fn what_the_system_refuses_is_a_fault(rt: HostRuntime) -> Result<(), Fail> {
-    let folder = folder(&rt, "refused")?;
-    let mut disk = FileDisk::open(&rt, folder.as_str())?;
-    assert_eq!(rt; disk.write_at(1, u64::MAX, b"ab"), Err(Failed));
-    assert_eq!(rt; disk.faults(), 1);
-    fs::remove_dir_all(&rt, folder.as_str())?;
-    Ok(())
-}

@@ -23,40 +23,6 @@ fn the_call_of_a_number_fails_and_changes_nothing(rt: HostRuntime) -> Result<(),
 }
 
 #[test]
-fn a_sync_that_failed_leaves_the_write_pending(rt: HostRuntime) -> Result<(), Fail> {
-    let alloc = rt.alloc();
-    let fails = vec![in alloc; 4]?;
-    let mut disk = MemoryDisk::make(alloc, fails, None)?;
-    disk.write_at(1, 0, b"ab")?;
-    disk.sync(1)?;
-    disk.write_at(1, 1, b"cd")?;
-    assert_eq!(rt; disk.sync(1), Err(Failed));
-    assert!(rt; holds(&mut disk.image(alloc, false)?, 1, b"ab"));
-    assert!(rt; holds(&mut disk.image(alloc, true)?, 1, b"acd"));
-    disk.sync(1)?;
-    assert!(rt; holds(&mut disk.image(alloc, false)?, 1, b"acd"));
-    Ok(())
-}
-
-#[test]
-fn each_call_from_the_stop_on_fails(rt: HostRuntime) -> Result<(), Fail> {
-    let alloc = rt.alloc();
-    let mut disk = MemoryDisk::make(alloc, Vec::new(alloc), Some(3))?;
-    disk.write_at(1, 0, b"ab")?;
-    disk.sync(1)?;
-    let mut out = [0u8; 2];
-    assert_eq!(rt; disk.read_at(1, 0, &mut out), Err(Failed));
-    assert_eq!(rt; disk.length(1), Err(Failed));
-    assert_eq!(rt; disk.greatest(), Err(Failed));
-    assert_eq!(rt; disk.write_at(1, 0, b"xy"), Err(Failed));
-    assert_eq!(rt; disk.sync(1), Err(Failed));
-    assert_eq!(rt; disk.remove(1), Err(Failed));
-    assert_eq!(rt; disk.faults(), 6);
-    assert!(rt; holds(&mut disk.image(alloc, true)?, 1, b"ab"));
-    Ok(())
-}
-
-#[test]
 fn want_of_memory_is_counted_and_changes_nothing(rt: HostRuntime) -> Result<(), Fail> {
     let alloc = rt.alloc();
     let mut disk = MemoryDisk::make(alloc, Vec::new(alloc), None)?;

@@ -4,18 +4,6 @@ use disk_core::Disk;
 use std::test::Fail;
 
 #[test]
-fn a_file_holds_what_was_written_last(rt: HostRuntime) -> Result<(), Fail> {
-    let mut disk = disk(rt.alloc())?;
-    disk.write_at(1, 0, b"abcde")?;
-    disk.write_at(1, 1, b"xy")?;
-    disk.write_at(2, 0, b"z")?;
-    assert!(rt; holds(&mut disk, 1, b"axyde"));
-    assert!(rt; holds(&mut disk, 2, b"z"));
-    assert_eq!(rt; disk.length(1)?, 5);
-    Ok(())
-}
-
-#[test]
 fn a_gap_reads_as_zeros(rt: HostRuntime) -> Result<(), Fail> {
     let mut disk = disk(rt.alloc())?;
     disk.write_at(1, 0, b"ab")?;
@@ -23,20 +11,6 @@ fn a_gap_reads_as_zeros(rt: HostRuntime) -> Result<(), Fail> {
     disk.write_at(3, 2, b"d")?;
     assert!(rt; holds(&mut disk, 1, b"ab\0\0c"));
     assert!(rt; holds(&mut disk, 3, b"\0\0d"));
-    Ok(())
-}
-
-#[test]
-fn a_read_ends_where_the_file_or_the_room_ends(rt: HostRuntime) -> Result<(), Fail> {
-    let mut disk = disk(rt.alloc())?;
-    disk.write_at(1, 0, b"abcde")?;
-    let mut out = [b'-'; 3];
-    assert_eq!(rt; disk.read_at(1, 1, &mut out)?, 3);
-    assert!(rt; out == *b"bcd");
-    assert_eq!(rt; disk.read_at(1, 4, &mut out)?, 1);
-    assert!(rt; out == *b"ecd");
-    assert_eq!(rt; disk.read_at(1, 5, &mut out)?, 0);
-    assert_eq!(rt; disk.read_at(1, u64::MAX, &mut out)?, 0);
     Ok(())
 }
 
@@ -52,14 +26,5 @@ fn a_removed_file_is_missing(rt: HostRuntime) -> Result<(), Fail> {
     assert_eq!(rt; disk.length(9)?, 0);
     disk.write_at(9, 1, b"c")?;
     assert!(rt; holds(&mut disk, 9, b"\0c"));
-    Ok(())
-}
-
-#[test]
-fn a_write_of_no_bytes_makes_no_file(rt: HostRuntime) -> Result<(), Fail> {
-    let mut disk = disk(rt.alloc())?;
-    disk.write_at(5, 3, b"")?;
-    assert_eq!(rt; disk.length(5)?, 0);
-    assert_eq!(rt; disk.greatest()?, 0);
     Ok(())
 }

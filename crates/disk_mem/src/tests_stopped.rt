@@ -38,28 +38,6 @@ fn pending_writes_stand_or_do_not(rt: HostRuntime) -> Result<(), Fail> {
 }
 
 #[test]
-fn a_removal_is_pending_until_its_sync(rt: HostRuntime) -> Result<(), Fail> {
-    let alloc = rt.alloc();
-    assert!(rt; leaves(alloc, 6, true, b"")?);
-    assert!(rt; leaves(alloc, 6, false, b"axyz")?);
-    assert!(rt; leaves(alloc, 7, false, b"")?);
-    Ok(())
-}
-
-#[test]
-fn a_sync_is_of_one_file(rt: HostRuntime) -> Result<(), Fail> {
-    let alloc = rt.alloc();
-    let mut disk = disk(alloc)?;
-    disk.write_at(1, 0, b"a")?;
-    disk.write_at(2, 0, b"b")?;
-    disk.sync(2)?;
-    let mut image = disk.image(alloc, false)?;
-    assert!(rt; holds(&mut image, 1, b""));
-    assert!(rt; holds(&mut image, 2, b"b"));
-    Ok(())
-}
-
-#[test]
 fn an_image_is_a_disk_from_which_a_run_goes_on(rt: HostRuntime) -> Result<(), Fail> {
     let alloc = rt.alloc();
     let mut disk = disk(alloc)?;

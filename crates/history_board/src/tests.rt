@@ -1,6 +1,6 @@
 ghost use Rattle.std.specs.Prelude.{◌≡◌};
 
-use crate::caller::{commit_as, commit_twice, meet_pin, pin_for};
+use crate::caller::commit_as;
 use crate::{Keeper, Made, make};
 use std::test::Fail;
 
@@ -31,27 +31,6 @@ fn made_by(session: u32, command: u32) -> Entry
 }
 
 #[test]
-fn notes_of_one_thread(rt: HostRuntime) -> Result<(), Fail> {
-    let mut keeper: Keeper<Entry> = make(rt.alloc())?;
-    let board = keeper.share()?;
-    let entry = Entry {
-        session: 0,
-        command: 1,
-    };
-    assert_eq!(rt; (entry.session(), entry.command()), (0, 1));
-    let mut early = keeper.note();
-    assert_eq!(rt; keeper.commit(&entry), 1);
-    assert_eq!(rt; keeper.commit(&entry), 2);
-    keeper.post(3);
-    let late = keeper.note();
-    let copy = early.copy(&board);
-    early.meet(&board, late);
-    early.meet(&board, copy);
-    assert_eq!(rt; early.floor(), 0);
-    Ok(())
-}
-
-#[test]
 fn pins_of_one_thread(rt: HostRuntime) -> Result<(), Fail> {
     let mut keeper: Keeper<Entry> = make(rt.alloc())?;
     let board = keeper.share()?;
@@ -77,32 +56,6 @@ fn pins_of_one_thread(rt: HostRuntime) -> Result<(), Fail> {
     );
     keeper.release(second);
     keeper.release(third);
-    Ok(())
-}
-
-#[test]
-fn a_caller_commits_twice(rt: HostRuntime) -> Result<(), Fail> {
-    let mut keeper: Keeper<Entry> = make(rt.alloc())?;
-    let board = keeper.share()?;
-    let first = made_by(0, 1);
-    let second = made_by(0, 2);
-    let (note, pin) = commit_twice(&mut keeper, &board, &first, &second)?;
-    assert_eq!(rt; (note.floor(), pin.time()), (0, 2));
-    keeper.release(pin);
-    Ok(())
-}
-
-#[test]
-fn the_keeper_meets_a_note_and_a_pin(rt: HostRuntime) -> Result<(), Fail> {
-    let mut keeper: Keeper<Entry> = make(rt.alloc())?;
-    let board = keeper.share()?;
-    let mut note = keeper.note();
-    assert_eq!(rt; keeper.commit(&made_by(0, 1)), 1);
-    let mut pin = pin_for(&mut keeper, &board, &mut note, 1)?;
-    meet_pin(&mut keeper, &board, &mut pin);
-    keeper.meet(note);
-    assert_eq!(rt; pin.time(), 1);
-    keeper.release(pin);
     Ok(())
 }
 

@@ -2,7 +2,6 @@ ghost use Rattle.std.specs.Prelude.{◌≡◌, IfOk};
 ghost use Rattle.base_core.specs.Lists.{Has};
 ghost use Rattle.place_board.specs.Tokens.{HasBorne, new_service};
 
-use crate::caller::live_and_retire;
 use crate::{ListSeat, Look, PlaceFault, PlaceNote, ServiceSeat, make_places};
 use base_core::Want;
 use fed_bytes::{Key, Span};
@@ -27,18 +26,6 @@ fn one_service(alloc: Global) -> Result<(ServiceSeat, ListSeat), Fail>
         Some(service) => Ok((service, list)),
         None => Err(Fail::from(Want::NoMemory)),
     }
-}
-
-// The first numbers of two services.
-fn first_numbers(alloc: Global) -> Result<Vec<u32>, Fail> {
-    let span = all_keys(alloc)?;
-    let (seats, _list) = make_places(alloc, 2)?;
-    let mut numbers = Vec::new(alloc);
-    'seats: for mut seat in seats.into_items() {
-        numbers.push(seat.birth(0, &span)?.0)?;
-        numbers.push(seat.birth(1, &span)?.0)?;
-    }
-    Ok(numbers)
 }
 
 // The last number that the service bears.
@@ -147,40 +134,9 @@ fn a_thread_looks_while_another_retires(rt: HostRuntime) -> Result<(), Fail> {
 }
 
 #[test]
-fn each_service_has_its_own_numbers(rt: HostRuntime) -> Result<(), Fail> {
-    let numbers = first_numbers(rt.alloc())?;
-    assert_eq!(rt; numbers.as_slice(), [0, 1, 2048, 2049].as_slice());
-    Ok(())
-}
-
-#[test]
 fn the_number_after_the_last_is_refused(rt: HostRuntime) -> Result<(), Fail> {
     let span = all_keys(rt.alloc())?;
     let (mut service, _list) = one_service(rt.alloc())?;
     assert_eq!(rt; last_number(&mut service, &span), Some(2047));
-    Ok(())
-}
-
-#[test]
-fn notes_go_from_seat_to_seat(rt: HostRuntime) -> Result<(), Fail> {
-    let (mut service, mut list) = one_service(rt.alloc())?;
-    let board = list.share()?;
-    service.post(3);
-    let mut note = service.know();
-    let copy = note.copy(&board);
-    note.meet(&board, copy);
-    list.meet(note);
-    service.is_sound();
-    list.is_sound();
-    assert_eq!(rt; list.services(), 1);
-    Ok(())
-}
-
-#[test]
-fn a_retired_number_is_found_so(rt: HostRuntime) -> Result<(), Fail> {
-    let span = all_keys(rt.alloc())?;
-    let (mut service, mut list) = one_service(rt.alloc())?;
-    let (number, found) = live_and_retire(&mut list, &mut service, 0, &span)?;
-    assert_eq!(rt; (number, found), (0, Look::Retired));
     Ok(())
 }

@@ -70,17 +70,6 @@ fn all_stand(alloc: Global, place: &mut PlaceState) -> Result<bool, Fail> {
 }
 
 #[test]
-fn a_new_place_has_one_shard_for_each_index(rt: HostRuntime) -> Result<(), Fail> {
-    let (mut place, _service) = two_services(rt.alloc())?;
-    assert_eq!(rt; number_at(rt.alloc(), &mut place, Index::T2i, &[])?, 0);
-    assert_eq!(rt; number_at(rt.alloc(), &mut place, Index::I2t, &[7])?, 1);
-    assert_eq!(rt; number_at(rt.alloc(), &mut place, Index::Spo, &[0, 0])?, 2);
-    assert_eq!(rt; number_at(rt.alloc(), &mut place, Index::Pos, &[255])?, 3);
-    assert_eq!(rt; number_at(rt.alloc(), &mut place, Index::Osp, &[1])?, 4);
-    Ok(())
-}
-
-#[test]
 fn a_shard_is_replaced_once(rt: HostRuntime) -> Result<(), Fail> {
     let (mut place, mut service) = two_services(rt.alloc())?;
     let (old, again) = replace_twice(rt.alloc(), &mut place, &mut service, 1, Index::T2i, &[3])?;
@@ -98,16 +87,5 @@ fn a_hundred_cuts_leave_each_key_with_its_shard(rt: HostRuntime) -> Result<(), F
     assert!(rt; all_stand(rt.alloc(), &mut place)?);
     let counts = place.counts(rt.alloc())?;
     assert_eq!(rt; counts.items(), [105, 0].as_slice());
-    Ok(())
-}
-
-#[test]
-fn a_span_is_not_cut_at_its_left_end(rt: HostRuntime) -> Result<(), Fail> {
-    let (mut place, mut service) = two_services(rt.alloc())?;
-    assert!(rt; cut_at(rt.alloc(), &mut place, &mut service, 1, Index::Osp, &[9])?);
-    assert!(rt; !cut_at(rt.alloc(), &mut place, &mut service, 1, Index::Osp, &[9])?);
-    let before = number_at(rt.alloc(), &mut place, Index::Osp, &[8, 255])?;
-    let after = number_at(rt.alloc(), &mut place, Index::Osp, &[9])?;
-    assert_eq!(rt; (before, after), (5, 6));
     Ok(())
 }

@@ -179,25 +179,6 @@ fn put_of(
 }
 
 #[test]
-fn an_empty_file_gets_its_closed_gate(rt: HostRuntime) -> Result<(), Fail> {
-    let mut disk = OneFile::of(rt.alloc(), b"")?;
-    let log = RecordLog::start(rt.alloc(), &mut disk, FILE, 1000)?;
-    assert_eq!(rt; log.count(), 0);
-    assert_eq!(rt; disk.stored.as_slice(), [0].as_slice());
-    assert_eq!(rt; disk.calls, 3);
-    Ok(())
-}
-
-#[test]
-fn one_open_gate_alone_is_an_empty_log(rt: HostRuntime) -> Result<(), Fail> {
-    let mut disk = OneFile::of(rt.alloc(), &[1])?;
-    let log = RecordLog::start(rt.alloc(), &mut disk, FILE, 1000)?;
-    assert_eq!(rt; log.count(), 0);
-    assert_eq!(rt; disk.stored.as_slice(), [0].as_slice());
-    Ok(())
-}
-
-#[test]
 fn records_are_put_and_read_again(rt: HostRuntime) -> Result<(), Fail> {
     let alloc = rt.alloc();
     let mut disk = OneFile::of(alloc, b"")?;
@@ -220,22 +201,6 @@ fn records_are_put_and_read_again(rt: HostRuntime) -> Result<(), Fail> {
     assert_eq!(rt; second.as_slice(), b"".as_slice());
     let third = body_of(alloc, &log, &mut disk, 2)?.ok_or("no record")?;
     assert_eq!(rt; third.as_slice(), b"c".as_slice());
-    Ok(())
-}
-
-#[test]
-fn a_limit_holds_the_next_gate_too(rt: HostRuntime) -> Result<(), Fail> {
-    let alloc = rt.alloc();
-    let mut disk = OneFile::of(alloc, b"")?;
-    let mut log = RecordLog::start(alloc, &mut disk, FILE, 16)?;
-    assert_eq!(rt;
-        log.put(alloc, &mut disk, b"elevenbytes"),
-        Err(LogFault::Full)
-    );
-    assert_eq!(rt; disk.bytes.as_slice(), [0].as_slice());
-    assert_eq!(rt; log.put(alloc, &mut disk, b"ten bytes."), Ok(1));
-    assert_eq!(rt; disk.bytes.len(), 16);
-    assert_eq!(rt; log.put(alloc, &mut disk, b""), Err(LogFault::Full));
     Ok(())
 }
 
@@ -291,21 +256,6 @@ fn a_mend_says_what_a_failed_put_left(rt: HostRuntime) -> Result<(), Fail> {
     Ok(())
 }
 
-#[test]
-fn a_mend_that_fails_leaves_the_log_undecided(rt: HostRuntime) -> Result<(), Fail> {
-    let alloc = rt.alloc();
-    let (mut log, mut disk) = failed_put(alloc, 3)?;
-    disk.fail_at(1);
-    assert_eq!(rt; log.mend(&mut disk), Err(LogFault::Failed));
-    assert!(rt; log.needs_mend());
-    assert_eq!(rt; log.count(), 1);
-    disk.fail_at(NEVER);
-    assert_eq!(rt; log.mend(&mut disk), Ok(true));
-    assert_eq!(rt; log.count(), 2);
-    assert_eq!(rt; log.mend(&mut disk), Ok(false), "nothing is undecided");
-    Ok(())
-}
-
 /// How many records a crash leaves at the k-th call of a put: as the last sync stored the file, and as reads give it.
 fn left_at(alloc: Global, k: u32) -> Result<(u64, u64), Fail> {
     let (_, disk) = failed_put(alloc, k)?;
@@ -322,18 +272,6 @@ fn a_crash_in_a_put_leaves_the_records_or_one_more(rt: HostRuntime) -> Result<()
     assert_eq!(rt; left_at(alloc, 1)?, (1, 1));
     assert_eq!(rt; left_at(alloc, 2)?, (1, 1));
     assert_eq!(rt; left_at(alloc, 3)?, (1, 2));
-    Ok(())
-}
-
-#[test]
-fn a_put_after_a_mend_writes_over_what_failed(rt: HostRuntime) -> Result<(), Fail> {
-    let alloc = rt.alloc();
-    let (mut log, mut disk) = failed_put(alloc, 2)?;
-    assert_eq!(rt; log.mend(&mut disk), Ok(false));
-    assert_eq!(rt; log.put(alloc, &mut disk, b"cd"), Ok(2));
-    assert_eq!(rt; count_of(alloc, disk.stored.as_slice())?, 2);
-    let body = body_of(alloc, &log, &mut disk, 1)?.ok_or("no record")?;
-    assert_eq!(rt; body.as_slice(), b"cd".as_slice());
     Ok(())
 }
 
@@ -361,23 +299,6 @@ fn what_fits_within_a_limit(rt: HostRuntime) -> Result<(), Fail> {
     Ok(())
 }
 
-/// The places of the gates of the first three records.
-fn gates_of(log: &RecordLog) -> Option<(u64, u64, u64)> {
-    if log.count() < 3 {
-        return None;
-    }
-    Some((log.place(0), log.place(1), log.place(2)))
-}
-
-#[test]
-fn a_record_is_named_by_its_gate(rt: HostRuntime) -> Result<(), Fail> {
-    let bytes = [1, 0, 0, 0, 2, 7, 7, 1, 0, 0, 0, 0, 1, 0, 0, 0, 1, 7, 0];
-    let mut disk = OneFile::of(rt.alloc(), &bytes)?;
-    let log = RecordLog::start(rt.alloc(), &mut disk, FILE, 1000)?;
-    assert_eq!(rt; gates_of(&log), Some((0, 7, 12)));
-    Ok(())
-}
-
 /// Prepares the record "cd" while a put is undecided, mends, and puts it. Whether the mend took the other in, and the count.
 fn prepared_before_a_mend(alloc: Global, k: u32) -> Result<(bool, u64), Fail> {
     let (mut log, mut disk) = failed_put(alloc, k)?;
@@ -396,19 +317,5 @@ fn a_prepared_record_is_put_after_a_mend(rt: HostRuntime) -> Result<(), Fail> {
     let alloc = rt.alloc();
     assert_eq!(rt; prepared_before_a_mend(alloc, 1)?, (false, 2));
     assert_eq!(rt; prepared_before_a_mend(alloc, 3)?, (true, 3));
-    Ok(())
-}
-
-#[test]
-fn a_start_that_failed_is_begun_again(rt: HostRuntime) -> Result<(), Fail> {
-    let alloc = rt.alloc();
-    let mut disk = OneFile::of(alloc, b"")?;
-    disk.fail_at(2);
-    let first = RecordLog::start(alloc, &mut disk, FILE, 1000).err();
-    assert_eq!(rt; first, Some(LogFault::Failed));
-    disk.fail_at(NEVER);
-    let log = RecordLog::start(alloc, &mut disk, FILE, 1000)?;
-    assert_eq!(rt; log.count(), 0);
-    assert_eq!(rt; disk.stored.as_slice(), [0].as_slice());
     Ok(())
 }

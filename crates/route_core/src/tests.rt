@@ -94,27 +94,3 @@ fn what_overlaps_a_learned_one_goes(rt: HostRuntime) -> Result<(), Fail> {
     assert_eq!(rt; number_at(&route, 5), Some(1));
     Ok(())
 }
-
-#[test]
-fn a_forgotten_number_is_not_known(rt: HostRuntime) -> Result<(), Fail> {
-    let (mut route, mut service) = new_route(rt.alloc())?;
-    learn_between(rt.alloc(), &mut route, &mut service, 1, 5)?;
-    learn_between(rt.alloc(), &mut route, &mut service, 5, 9)?;
-    route.forget(0);
-    assert_eq!(rt; number_at(&route, 2), None);
-    assert_eq!(rt; number_at(&route, 6), Some(1));
-    Ok(())
-}
-
-#[test]
-fn a_span_without_a_key_is_not_held(rt: HostRuntime) -> Result<(), Fail> {
-    let (mut route, mut service) = new_route(rt.alloc())?;
-    learn_between(rt.alloc(), &mut route, &mut service, 1, 5)?;
-    learn_between(rt.alloc(), &mut route, &mut service, 3, 3)?;
-    assert_eq!(rt; number_at(&route, 3), Some(0));
-    let note = route.know();
-    route.meet(note);
-    route.is_route();
-    assert_eq!(rt; number_at(&route, 4), Some(0));
-    Ok(())
-}

@@ -14,15 +14,6 @@ fn span_of(alloc: Global, left: &[u8], right: Option<&[u8]>) -> Result<Span, Wan
     Ok(Span { left, right })
 }
 
-#[test]
-fn an_empty_span_is_done_at_once(rt: HostRuntime) -> Result<(), Fail> {
-    let alloc = rt.alloc();
-    let scan = Scan::start(alloc, Index::T2i, span_of(alloc, b"b", Some(b"b"))?, 0);
-    assert!(rt; scan.is_done());
-    assert_eq!(rt; scan.rest().left.bytes(), b"b".as_slice());
-    Ok(())
-}
-
 // Asks for each of these numbers, and finds it retired.
 fn lose_all(scan: &mut Scan, numbers: u32) -> Result<(), ScanFault> {
     'numbers: for number in 0..numbers {
@@ -70,21 +61,5 @@ fn the_eighth_number_ends_the_scan(rt: HostRuntime) -> Result<(), Fail> {
     }
     assert_eq!(rt; last, Err(ScanFault::Again { numbers }));
     assert_eq!(rt; scan.asked_number(), Some(2));
-    Ok(())
-}
-
-#[test]
-fn a_shard_that_is_behind_is_fed_once(rt: HostRuntime) -> Result<(), Fail> {
-    let alloc = rt.alloc();
-    let mut scan = Scan::start(alloc, Index::T2i, span_of(alloc, b"", None)?, 5);
-    scan.ask(1);
-    scan.behind(2);
-    assert_eq!(rt;
-        (scan.behind_upto(), scan.asked_number()),
-        (Some(2), Some(1))
-    );
-    scan.fed();
-    assert_eq!(rt; scan.behind_upto(), None);
-    scan.is_sound();
     Ok(())
 }
