@@ -10,12 +10,12 @@ use Rattle.fed_bytes.proofs.Orders.{up_to-itself, up_to-chain, before_up_to, up_
 use Rattle.triple_keys.specs.declared.key.Ids.{Ids}
 use Rattle.triple_keys.specs.declared.order.Order.{Order}
 use Rattle.triple_keys.specs.Keys.{key_bytes}
-use Rattle.window_core.specs.declared.rows.Row.{Row}
-use Rattle.window_core.specs.declared.rows.Chunk.{Chunk}
-use Rattle.window_core.specs.Rows.{ComesBefore, StandInOrder, AreFrom, HaveKeys, BeginWith, EndsAt, IsChunk}
+use Rattle.row_core.specs.declared.rows.Row.{Row}
+use Rattle.row_core.specs.declared.rows.Chunk.{Chunk}
+use Rattle.row_core.specs.Rows.{ComesBefore, StandInOrder, AreFrom, HaveKeys, BeginWith, EndsAt, IsChunk}
 use Rattle.window_core.specs.Windows.{IsOnward}
-use Rattle.window_core.proofs.Lists.{of_each, in_front, in_one}
-use Rattle.window_core.proofs.Order.{up_to_later, before_is_up_to, not_before_itself, front_in_order, front_before}
+use Rattle.row_core.proofs.Lists.{of_each, in_front, in_one}
+use Rattle.row_core.proofs.Order.{up_to_later, before_is_up_to, not_before_itself, front_in_order, front_before}
 use Rattle.pattern_core.proofs.Members.{AllPairs}
 use Rattle.bigfed.specs.Indexed.{HasValue, IsShownIn}
 use Rattle.bigfed.specs.Shown.{SpanGoesOn, same_key, firsts}

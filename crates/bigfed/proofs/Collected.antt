@@ -7,15 +7,15 @@ use Rattle.fed_bytes.specs.Keys.{IsIn}
 use Rattle.triple_keys.specs.declared.key.Ids.{Ids}
 use Rattle.triple_keys.specs.declared.order.Order.{Order}
 use Rattle.triple_keys.specs.Keys.{AreIds, key_bytes}
-use Rattle.window_core.specs.declared.rows.Row.{Row}
-use Rattle.window_core.specs.Rows.{StandInOrder}
+use Rattle.row_core.specs.declared.rows.Row.{Row}
+use Rattle.row_core.specs.Rows.{StandInOrder}
 use Rattle.change_model.specs.Laws.{IsValue}
 use Rattle.bigfed.specs.Indexed.{IsShownIn}
 use Rattle.bigfed.specs.Shown.{IsKept, firsts}
 use Rattle.bigfed.proofs.Chunks.{firsts_are, ByKey, firsts_by_key}
 use Rattle.pattern_core.proofs.Members.{AllPairs}
 use Rattle.fed_bytes.specs.Keys.{IsBefore}
-use Rattle.window_core.proofs.Order.{not_before_itself}
+use Rattle.row_core.proofs.Order.{not_before_itself}
 use Rattle.change_model.proofs.Members.{Has-append, AreDistinct-push}
 
 -- what stood there, and what the elements that are done have brought

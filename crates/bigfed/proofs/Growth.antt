@@ -9,12 +9,12 @@ use Rattle.term_core.specs.Spelling.{spelling}
 use Rattle.term_core.specs.Term.{IsTerm, IsStatement}
 use Rattle.fed_bytes.specs.declared.span.Span.{Span}
 use Rattle.fed_bytes.specs.Keys.{IsUpTo, IsIn, IsBeforeEnd}
-use Rattle.window_core.specs.declared.rows.Index.{Index}
-use Rattle.window_core.specs.declared.rows.Index.TheVariants.{T2i, I2t, Spo, Pos, Osp}
-use Rattle.window_core.specs.declared.rows.Row.{Row}
+use Rattle.row_core.specs.declared.rows.Index.{Index}
+use Rattle.row_core.specs.declared.rows.Index.TheVariants.{T2i, I2t, Spo, Pos, Osp}
+use Rattle.row_core.specs.declared.rows.Row.{Row}
 use Rattle.window_core.specs.declared.live.LiveWindow.{LiveWindow}
-use Rattle.window_core.specs.Rows.{AreExtended}
-use Rattle.window_core.proofs.Lists.{of_each, each}
+use Rattle.row_core.specs.Rows.{AreExtended}
+use Rattle.row_core.proofs.Lists.{of_each, each}
 use Rattle.change_model.specs.declared.entry.Entry.{Entry}
 use Rattle.change_model.specs.declared.history.Kind.{Kind}
 use Rattle.change_model.specs.declared.history.Kind.TheVariants.{Add, Remove}

@@ -5,13 +5,13 @@ use Rattle.term_core.specs.declared.term.Term.{Term}
 use Rattle.term_core.specs.Term.{IsTerm}
 use Rattle.term_core.specs.Spelling.{spelling}
 use Rattle.base_core.specs.Numbers.{number_bytes}
-use Rattle.window_core.specs.declared.rows.Index.{Index}
-use Rattle.window_core.specs.declared.rows.Index.TheVariants.{T2i, I2t}
-use Rattle.window_core.specs.declared.rows.Row.{Row}
-use Rattle.window_core.specs.declared.rows.Cell.{Cell}
-use Rattle.window_core.specs.declared.rows.Cell.TheVariants.{Value, Deleted}
+use Rattle.row_core.specs.declared.rows.Index.{Index}
+use Rattle.row_core.specs.declared.rows.Index.TheVariants.{T2i, I2t}
+use Rattle.row_core.specs.declared.rows.Row.{Row}
+use Rattle.row_core.specs.declared.rows.Cell.{Cell}
+use Rattle.row_core.specs.declared.rows.Cell.TheVariants.{Value, Deleted}
 use Rattle.window_core.specs.declared.live.LiveWindow.{LiveWindow}
-use Rattle.window_core.specs.Rows.{IsAt, IsLast}
+use Rattle.row_core.specs.Rows.{IsAt, IsLast}
 use Rattle.change_model.specs.History.{History}
 use Rattle.change_model.specs.IndexRows.{IsLastRow, IsTermRow}
 use Rattle.change_model.specs.Entries.{IsIdOf}

@@ -1,8 +1,8 @@
 -- Private: the rows of a change that go into the indexes.
 use Rattle.std.specs.Prelude.{◌≡◌, ℕ, ◌+◌, List}
-use Rattle.window_core.specs.declared.rows.Row.{Row}
+use Rattle.row_core.specs.declared.rows.Row.{Row}
 use Rattle.window_core.specs.declared.live.LiveWindow.{LiveWindow}
-use Rattle.window_core.specs.Rows.{AreChanges}
+use Rattle.row_core.specs.Rows.{AreChanges}
 use Rattle.change_model.specs.declared.entry.Entry.{Entry}
 use Rattle.bigfed.specs.declared.indexes.Indexes.{Indexes}
 use Rattle.bigfed.specs.Indexed.{upto_of}

@@ -8,14 +8,14 @@ use Rattle.triple_keys.specs.declared.key.Ids.{Ids}
 use Rattle.triple_keys.specs.declared.order.Order.{Order}
 use Rattle.triple_keys.specs.declared.order.Order.TheVariants as order
 use Rattle.triple_keys.specs.Keys.{AreIds, key_bytes}
-use Rattle.window_core.specs.declared.rows.Index.{Index}
-use Rattle.window_core.specs.declared.rows.Index.TheVariants.{T2i, I2t, Spo, Pos, Osp}
-use Rattle.window_core.specs.declared.rows.Row.{Row}
-use Rattle.window_core.specs.declared.rows.Cell.{Cell}
-use Rattle.window_core.specs.declared.rows.Cell.TheVariants.{Value, Deleted}
+use Rattle.row_core.specs.declared.rows.Index.{Index}
+use Rattle.row_core.specs.declared.rows.Index.TheVariants.{T2i, I2t, Spo, Pos, Osp}
+use Rattle.row_core.specs.declared.rows.Row.{Row}
+use Rattle.row_core.specs.declared.rows.Cell.{Cell}
+use Rattle.row_core.specs.declared.rows.Cell.TheVariants.{Value, Deleted}
 use Rattle.window_core.specs.declared.live.LiveWindow.{LiveWindow}
 use Rattle.window_core.specs.contracts.live.LiveWindowWindow.TheImpl as live_window
-use Rattle.window_core.specs.Rows.{IsLast}
+use Rattle.row_core.specs.Rows.{IsLast}
 use Rattle.change_model.specs.History.{History}
 use Rattle.change_model.specs.Lexicon.{lexicon_at, HasId}
 use Rattle.change_model.specs.IndexRows.{IsRow}

@@ -7,7 +7,7 @@ use Rattle.fed_bytes.specs.Keys.{IsIn}
 use Rattle.triple_keys.specs.declared.key.Ids.{Ids}
 use Rattle.triple_keys.specs.declared.order.Order.{Order}
 use Rattle.triple_keys.specs.Keys.{AreIds, key_bytes}
-use Rattle.window_core.specs.declared.rows.Row.{Row}
+use Rattle.row_core.specs.declared.rows.Row.{Row}
 use Rattle.change_model.specs.Laws.{IsValue}
 
 -- the key, if there is one and it is in the span

@@ -6,7 +6,7 @@ ghost use Rattle.term_core.specs.Spelling.{spelling};
 ghost use Rattle.term_core.specs.Term.{IsTerm, IsStatement};
 ghost use Rattle.base_core.specs.Numbers.{number_bytes};
 ghost use Rattle.triple_keys.specs.declared.key.Ids.{Ids as TheIds};
-ghost use Rattle.window_core.specs.declared.rows.Index.{Index as AnyIndex};
+ghost use Rattle.row_core.specs.declared.rows.Index.{Index as AnyIndex};
 ghost use Rattle.change_model.specs.History.{History};
 ghost use Rattle.change_model.specs.Entries.{IsLastEntry, IsIdOf, AreIdsOf, IsResolved};
 ghost use Rattle.change_model.specs.Laws.{IsWritable};
@@ -22,10 +22,11 @@ use change_model::{Change, Entry, Resolved, vocabulary_of};
 use disk_core::NoDisk;
 use fed_bytes::{Key, Span};
 use join_core::Ask;
+use row_core::{Cell, Row};
 use std::alloc::Global;
 use term_core::{Term, TermFault};
 use triple_keys::{Ids, Order};
-use window_core::{Cell, LiveWindow, Row, Window};
+use window_core::{LiveWindow, Window};
 
 #[derive(Drop)]
 pub struct Indexes {

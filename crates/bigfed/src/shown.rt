@@ -2,7 +2,7 @@
 ghost use Rattle.std.specs.Prelude.{◌≡◌, ◌↔◌, ◌≤◌, ◌⊎◌, Some, IfOk, OnOk, IsTrue};
 ghost use Rattle.base_core.specs.Lists.{Has, AreDistinct};
 ghost use Rattle.triple_keys.specs.declared.key.Ids.{Ids as TheIds};
-ghost use Rattle.window_core.specs.Rows.{StandInOrder, IsChunk};
+ghost use Rattle.row_core.specs.Rows.{StandInOrder, IsChunk};
 ghost use Rattle.window_core.specs.Windows.{IsOnward};
 ghost use Rattle.change_model.specs.Laws.{IsValue};
 ghost use Rattle.bigfed.specs.Indexed.{rows_in, IsShownIn};
@@ -11,9 +11,10 @@ ghost use Rattle.bigfed.specs.Shown.{IsKept, SpanGoesOn, firsts};
 use base_core::Want;
 use disk_core::NoDisk;
 use fed_bytes::{Key, Span};
+use row_core::{Cell, Chunk, Row, Rows};
 use std::alloc::Global;
 use triple_keys::{Ids, Order, ids_of};
-use window_core::{Cell, Chunk, LiveWindow, Row, Rows, Window};
+use window_core::{LiveWindow, Window};
 
 /// How many keys are read first. Each further read is of twice as many, so that little is read behind a short span.
 const FIRST_KEYS: u32 = 8;

@@ -1,9 +1,9 @@
 -- Several adjacent windows answer together.
 use Rattle.std.proofs.Common.{◌≡◌, ℕ, ◌≤◌, min, List, [], ◌∷◌, ◌++◌, Option, Some, None, sym, subst, arith}
 use Rattle.std.specs.List.{AllByRecursion}
-use Rattle.window_core.specs.declared.rows.Index.{Index}
-use Rattle.window_core.specs.declared.rows.Row.{Row}
-use Rattle.window_core.specs.Rows.{IsLast}
+use Rattle.row_core.specs.declared.rows.Index.{Index}
+use Rattle.row_core.specs.declared.rows.Row.{Row}
+use Rattle.row_core.specs.Rows.{IsLast}
 use Rattle.change_model.specs.History.{History}
 use Rattle.change_model.specs.Windows.{WindowData, IsLastAbove, AnswersFor}
 use Rattle.change_model.specs.WindowLaws.{AdjacentWindowsLaw, LastAmongLaw, AreAdjacent, ServesKey, HaveNone, IsLastAmong}

@@ -10,8 +10,8 @@ use Rattle.base_core.specs.Numbers.{number_bytes}
 use Rattle.triple_keys.specs.declared.key.Ids.{Ids}
 use Rattle.triple_keys.specs.declared.order.Order.{Order}
 use Rattle.triple_keys.proofs.Ordering.{number_bytes-cmp}
-use Rattle.window_core.specs.declared.rows.Row.{Row}
-use Rattle.window_core.specs.Rows.{ComesBefore, StandInOrder, AreChanges}
+use Rattle.row_core.specs.declared.rows.Row.{Row}
+use Rattle.row_core.specs.Rows.{ComesBefore, StandInOrder, AreChanges}
 use Rattle.change_model.specs.declared.history.Kind.{Kind}
 use Rattle.change_model.specs.declared.numbering.NewTerm.{NewTerm}
 use Rattle.change_model.specs.EntryRows.{AreOrdered, term_row, id_row, statement_row}

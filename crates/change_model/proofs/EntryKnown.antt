@@ -10,10 +10,10 @@ use Rattle.term_core.specs.declared.statement.Statement.{Statement}
 use Rattle.term_core.specs.Spelling.{spelling}
 use Rattle.term_core.specs.Term.{IsTerm, IsStatement}
 use Rattle.triple_keys.proofs.Spelling.{number_told}
-use Rattle.window_core.specs.declared.rows.Row.{Row}
-use Rattle.window_core.specs.declared.rows.Cell.TheVariants.{Value}
-use Rattle.window_core.specs.declared.rows.Index.TheVariants.{T2i}
-use Rattle.window_core.specs.Rows.{AreChanges}
+use Rattle.row_core.specs.declared.rows.Row.{Row}
+use Rattle.row_core.specs.declared.rows.Cell.TheVariants.{Value}
+use Rattle.row_core.specs.declared.rows.Index.TheVariants.{T2i}
+use Rattle.row_core.specs.Rows.{AreChanges}
 use Rattle.change_model.specs.declared.entry.Entry.{Entry}
 use Rattle.change_model.specs.declared.entry.Resolved.{Resolved}
 use Rattle.change_model.specs.declared.history.Committed.{Committed}

@@ -3,14 +3,14 @@ use Rattle.std.proofs.Common.{◌≡◌, ℕ, suc, ◌<◌, ◌+◌, ◌^◌, Li
 use Rattle.std.specs.List.{slice_get, AllByRecursion, filter_map}
 use Rattle.term_core.specs.declared.term.Term.{Term}
 use Rattle.base_core.specs.Lists.{Has, AreDistinct}
-use Rattle.window_core.specs.Rows.{StandInOrder}
+use Rattle.row_core.specs.Rows.{StandInOrder}
 use Rattle.term_core.specs.Term.{IsTerm, IsStatement}
 use Rattle.triple_keys.specs.declared.key.Ids.{Ids}
 use Rattle.triple_keys.specs.declared.order.Order.{Order}
 use Rattle.triple_keys.specs.declared.order.Order.TheVariants as order
-use Rattle.window_core.specs.declared.rows.Row.{Row}
-use Rattle.window_core.specs.declared.rows.Index.{Index}
-use Rattle.window_core.specs.declared.rows.Index.TheVariants.{T2i, I2t, Spo, Pos, Osp}
+use Rattle.row_core.specs.declared.rows.Row.{Row}
+use Rattle.row_core.specs.declared.rows.Index.{Index}
+use Rattle.row_core.specs.declared.rows.Index.TheVariants.{T2i, I2t, Spo, Pos, Osp}
 use Rattle.change_model.specs.declared.history.Committed.{Committed}
 use Rattle.change_model.specs.declared.history.Origin.{Origin}
 use Rattle.change_model.specs.declared.entry.Entry.{Entry}

@@ -19,8 +19,8 @@ use Rattle.triple_keys.specs.declared.order.Order.{Order}
 use Rattle.triple_keys.specs.declared.order.Order.TheVariants.{Spo}
 use Rattle.triple_keys.specs.Keys.{key_bytes}
 use Rattle.triple_keys.proofs.Spelling.{key_bytes-turned}
-use Rattle.window_core.specs.declared.rows.Row.{Row}
-use Rattle.window_core.specs.Rows.{ComesBefore, StandInOrder}
+use Rattle.row_core.specs.declared.rows.Row.{Row}
+use Rattle.row_core.specs.Rows.{ComesBefore, StandInOrder}
 use Rattle.change_model.specs.declared.history.Kind.{Kind}
 use Rattle.change_model.specs.IndexRows.{cell_of}
 use Rattle.change_model.specs.EntryRows.{HaveOwnKeys, AreOrdered, key_cmp, statement_row}

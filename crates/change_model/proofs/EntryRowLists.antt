@@ -1,7 +1,7 @@
 -- Lists of rows as they are made.
 use Rattle.std.proofs.Common.{◌≡◌, ℕ, ◌+◌, ◌<◌, List, [], ◌∷◌, ◌++◌, map, length, take, get_or, sym, ◌∙◌, ap}
 use Rattle.std.proofs.lemmas.List.{map_more, map-append}
-use Rattle.window_core.specs.declared.rows.Row.{Row}
+use Rattle.row_core.specs.declared.rows.Row.{Row}
 
 pub row_more : {E : Type 0} (f : E → Row) (items : List E) (i : ℕ) (d : E) (rows new : List Row) (row : Row) → i < length items
     → rows ≡ map f (take i items) → row ≡ f (get_or items i d) → new ≡ rows ++ (row ∷ []) → new ≡ map f (take (i + 1) items)

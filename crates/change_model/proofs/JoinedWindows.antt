@@ -2,10 +2,10 @@
 use Rattle.std.proofs.Common.{◌≡◌, ℕ, ◌≤◌, min, max, List, Option, Some, None, ◌⊎◌, inl, inr, ◌↔◌, sym, subst, arith}
 use Rattle.base_core.specs.Lists.{Has}
 use Rattle.fed_bytes.specs.Keys.{IsIn}
-use Rattle.window_core.specs.declared.rows.Index.{Index}
-use Rattle.window_core.specs.declared.rows.Row.{Row}
-use Rattle.window_core.specs.Rows.{StandInOrder, IsWithin, IsLast}
-use Rattle.window_core.proofs.Lists.{of_each, each}
+use Rattle.row_core.specs.declared.rows.Index.{Index}
+use Rattle.row_core.specs.declared.rows.Row.{Row}
+use Rattle.row_core.specs.Rows.{StandInOrder, IsWithin, IsLast}
+use Rattle.row_core.proofs.Lists.{of_each, each}
 use Rattle.change_model.specs.History.{History}
 use Rattle.change_model.specs.Windows.{WindowData, AnswersFor, WindowStandsFor}
 use Rattle.change_model.specs.WindowLaws.{JoinedWindowLaw}

@@ -20,10 +20,10 @@ use Rattle.term_core.specs.declared.term.Term.TheVariants.{Blank}
 use Rattle.term_core.specs.Spelling.{spelling}
 use Rattle.term_core.specs.Term.{IsTerm}
 use Rattle.term_core.proofs.Spelling.{spelling_same}
-use Rattle.window_core.specs.declared.rows.Row.{Row}
-use Rattle.window_core.specs.declared.rows.Cell.TheVariants.{Value}
-use Rattle.window_core.specs.Rows.{ComesBefore, StandInOrder, AreChanges}
-use Rattle.window_core.proofs.Order.{one_key, up_to_later, compared, not_before_tied}
+use Rattle.row_core.specs.declared.rows.Row.{Row}
+use Rattle.row_core.specs.declared.rows.Cell.TheVariants.{Value}
+use Rattle.row_core.specs.Rows.{ComesBefore, StandInOrder, AreChanges}
+use Rattle.row_core.proofs.Order.{one_key, up_to_later, compared, not_before_tied}
 use Rattle.change_model.specs.declared.entry.Entry.{Entry}
 use Rattle.change_model.specs.declared.vocabulary.Vocabulary.{Vocabulary}
 use Rattle.change_model.specs.History.{bound_term}

@@ -3,11 +3,11 @@ use Rattle.std.proofs.Common.{◌≡◌, ℕ, suc, ◌≤◌, List, length, Some
 use Rattle.term_core.specs.declared.term.Term.{Term}
 use Rattle.term_core.proofs.Spelling.{spelling_same}
 use Rattle.triple_keys.proofs.Spelling.{number_told}
-use Rattle.window_core.specs.declared.rows.Index.{Index}
-use Rattle.window_core.specs.declared.rows.Index.TheVariants.{T2i, I2t}
-use Rattle.window_core.specs.declared.rows.Row.{Row}
-use Rattle.window_core.specs.declared.rows.Cell.TheVariants.{Value}
-use Rattle.window_core.specs.Rows.{IsAt}
+use Rattle.row_core.specs.declared.rows.Index.{Index}
+use Rattle.row_core.specs.declared.rows.Index.TheVariants.{T2i, I2t}
+use Rattle.row_core.specs.declared.rows.Row.{Row}
+use Rattle.row_core.specs.declared.rows.Cell.TheVariants.{Value}
+use Rattle.row_core.specs.Rows.{IsAt}
 use Rattle.change_model.specs.History.{History}
 use Rattle.change_model.specs.Lexicon.{HasId}
 use Rattle.change_model.specs.IndexRows.{IsRow, IsLastRow}

@@ -3,10 +3,10 @@ use Rattle.std.proofs.Common.{ℕ, ◌≤◌, min, List, Option, Some, None, inl
 use Rattle.std.proofs.lemmas.Bool.{cases_lt}
 use Rattle.base_core.specs.Lists.{Has}
 use Rattle.fed_bytes.specs.Keys.{IsIn}
-use Rattle.window_core.specs.declared.rows.Index.{Index}
-use Rattle.window_core.specs.declared.rows.Row.{Row}
-use Rattle.window_core.specs.Rows.{IsWithin, IsAt, IsLast}
-use Rattle.window_core.proofs.Lists.{of_each, each}
+use Rattle.row_core.specs.declared.rows.Index.{Index}
+use Rattle.row_core.specs.declared.rows.Row.{Row}
+use Rattle.row_core.specs.Rows.{IsWithin, IsAt, IsLast}
+use Rattle.row_core.proofs.Lists.{of_each, each}
 use Rattle.change_model.specs.History.{History}
 use Rattle.change_model.specs.Windows.{WindowData, MayBeDropped, AnswersFor, WindowStandsFor}
 use Rattle.change_model.specs.WindowLaws.{PrunedWindowLaw, CountsFrom, IsPruned}

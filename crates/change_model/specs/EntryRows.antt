@@ -8,9 +8,9 @@ use Rattle.base_core.specs.Numbers.{number_bytes}
 use Rattle.triple_keys.specs.declared.key.Ids.{Ids}
 use Rattle.triple_keys.specs.declared.order.Order.{Order}
 use Rattle.triple_keys.specs.Keys.{key_bytes}
-use Rattle.window_core.specs.declared.rows.Row.{Row}
-use Rattle.window_core.specs.declared.rows.Cell.TheVariants.{Value}
-use Rattle.window_core.specs.Rows.{StandInOrder}
+use Rattle.row_core.specs.declared.rows.Row.{Row}
+use Rattle.row_core.specs.declared.rows.Cell.TheVariants.{Value}
+use Rattle.row_core.specs.Rows.{StandInOrder}
 use Rattle.change_model.specs.declared.history.Kind.{Kind}
 use Rattle.change_model.specs.declared.numbering.NewTerm.{NewTerm}
 use Rattle.change_model.specs.IndexRows.{cell_of}

@@ -10,12 +10,12 @@ use Rattle.triple_keys.specs.declared.key.Ids.{Ids}
 use Rattle.triple_keys.specs.declared.order.Order.{Order}
 use Rattle.triple_keys.specs.declared.order.Order.TheVariants as order
 use Rattle.triple_keys.specs.Keys.{key_bytes}
-use Rattle.window_core.specs.declared.rows.Index.{Index}
-use Rattle.window_core.specs.declared.rows.Index.TheVariants.{T2i, I2t, Spo, Pos, Osp}
-use Rattle.window_core.specs.declared.rows.Row.{Row}
-use Rattle.window_core.specs.declared.rows.Cell.{Cell}
-use Rattle.window_core.specs.declared.rows.Cell.TheVariants.{Value, Deleted}
-use Rattle.window_core.specs.Rows.{IsAt}
+use Rattle.row_core.specs.declared.rows.Index.{Index}
+use Rattle.row_core.specs.declared.rows.Index.TheVariants.{T2i, I2t, Spo, Pos, Osp}
+use Rattle.row_core.specs.declared.rows.Row.{Row}
+use Rattle.row_core.specs.declared.rows.Cell.{Cell}
+use Rattle.row_core.specs.declared.rows.Cell.TheVariants.{Value, Deleted}
+use Rattle.row_core.specs.Rows.{IsAt}
 use Rattle.change_model.specs.declared.history.Kind.{Kind}
 use Rattle.change_model.specs.declared.history.Kind.TheVariants.{Add, Remove}
 use Rattle.change_model.specs.declared.history.Committed.{Committed}

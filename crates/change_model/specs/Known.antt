@@ -7,9 +7,9 @@ use Rattle.term_core.specs.Spelling.{spelling}
 use Rattle.term_core.specs.Term.{IsTerm}
 use Rattle.base_core.specs.Lists.{Has}
 use Rattle.base_core.specs.Numbers.{number_bytes}
-use Rattle.window_core.specs.declared.rows.Row.{Row}
-use Rattle.window_core.specs.declared.rows.Cell.TheVariants.{Value}
-use Rattle.window_core.specs.Rows.{AreChanges}
+use Rattle.row_core.specs.declared.rows.Row.{Row}
+use Rattle.row_core.specs.declared.rows.Cell.TheVariants.{Value}
+use Rattle.row_core.specs.Rows.{AreChanges}
 use Rattle.change_model.specs.declared.entry.Entry.{Entry}
 use Rattle.change_model.specs.Numbering.{HasIdIn}
 

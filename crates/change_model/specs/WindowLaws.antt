@@ -4,9 +4,9 @@ use Rattle.std.specs.List.{AllByRecursion}
 use Rattle.base_core.specs.Lists.{Has}
 use Rattle.fed_bytes.specs.declared.span.Span.{Span}
 use Rattle.fed_bytes.specs.Keys.{IsIn}
-use Rattle.window_core.specs.declared.rows.Index.{Index}
-use Rattle.window_core.specs.declared.rows.Row.{Row}
-use Rattle.window_core.specs.Rows.{StandInOrder, IsWithin, IsLast, AreExtended}
+use Rattle.row_core.specs.declared.rows.Index.{Index}
+use Rattle.row_core.specs.declared.rows.Row.{Row}
+use Rattle.row_core.specs.Rows.{StandInOrder, IsWithin, IsLast, AreExtended}
 use Rattle.change_model.specs.History.{History}
 use Rattle.change_model.specs.IndexRows.{IsRow, IsLastRow}
 use Rattle.change_model.specs.Laws.{IsWritable, IsValue}

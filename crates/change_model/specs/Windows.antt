@@ -3,11 +3,10 @@ use Rattle.std.specs.Prelude.{◌≡◌, ℕ, ◌<◌, ◌≤◌, min, List, len
 use Rattle.base_core.specs.Lists.{Has}
 use Rattle.fed_bytes.specs.declared.span.Span.{Span}
 use Rattle.fed_bytes.specs.Keys.{IsIn}
-use Rattle.window_core.specs.declared.rows.Index.{Index}
-use Rattle.window_core.specs.declared.rows.Row.{Row}
-use Rattle.window_core.specs.declared.rows.Cell.TheVariants.{Deleted}
-use Rattle.window_core.specs.Rows.{IsLast}
-use Rattle.window_core.specs.Windows.{IsWindow}
+use Rattle.row_core.specs.declared.rows.Index.{Index}
+use Rattle.row_core.specs.declared.rows.Row.{Row}
+use Rattle.row_core.specs.declared.rows.Cell.TheVariants.{Deleted}
+use Rattle.row_core.specs.Rows.{IsLast, IsWindow}
 use Rattle.change_model.specs.History.{History}
 use Rattle.change_model.specs.IndexRows.{IsRow, IsNewest}
 

@@ -14,9 +14,9 @@ use crate::known::known_ids;
 use crate::numbering::{number_terms, statement_ids};
 use crate::vocabulary::Vocabulary;
 use base_core::{List, Want};
+use row_core::Rows;
 use std::alloc::Global;
 use std::sync::Arc;
-use window_core::Rows;
 
 /// A change with its terms, and the ids that these have at some time. A term without an id there has none yet.
 #[derive(Debug, Drop)]

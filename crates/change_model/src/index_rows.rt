@@ -4,8 +4,8 @@ ghost use Rattle.std.specs.List.Sorted.{IsPermutation, IsSorted};
 ghost use Rattle.base_core.specs.Numbers.{number_bytes};
 ghost use Rattle.triple_keys.specs.declared.order.Order.TheVariants.{Spo, Pos, Osp};
 ghost use Rattle.base_core.specs.Lists.{Has};
-ghost use Rattle.window_core.specs.declared.rows.Row.{Row as AnyRow};
-ghost use Rattle.window_core.specs.Rows.{StandInOrder, AreChanges};
+ghost use Rattle.row_core.specs.declared.rows.Row.{Row as AnyRow};
+ghost use Rattle.row_core.specs.Rows.{StandInOrder, AreChanges};
 ghost use Rattle.change_model.specs.IndexRows.{cell_of};
 ghost use Rattle.change_model.specs.EntryRows.{HaveOwnKeys, AreOrdered, key_cmp, term_row, id_row, statement_row};
 
@@ -13,9 +13,9 @@ use crate::history::Kind;
 use crate::numbering::NewTerm;
 use base_core::Want;
 use fed_bytes::Key;
+use row_core::{Cell, Row, Rows};
 use std::alloc::Global;
 use triple_keys::{Ids, Order, compare, key_of};
-use window_core::{Cell, Row, Rows};
 
 /// The rows of the terms that have new ids, by their spellings.
 pub(crate) fn term_rows(alloc: Global, terms: Vec<NewTerm>, time: u64) -> Result<Rows, Want>

@@ -9,7 +9,7 @@ ghost use Rattle.base_core.specs.Numbers.{number_bytes};
 ghost use Rattle.term_core.specs.declared.term.Term.{Term as AnyTerm};
 ghost use Rattle.term_core.specs.Spelling.{spelling as spelling_of};
 ghost use Rattle.term_core.specs.Term.{IsTerm};
-ghost use Rattle.window_core.specs.declared.rows.Cell.TheVariants.{Value};
+ghost use Rattle.row_core.specs.declared.rows.Cell.TheVariants.{Value};
 ghost use Rattle.change_model.specs.History.{bound_term};
 ghost use Rattle.change_model.specs.Known.{AreTold, GiveId, GiveNoId, HaveNotKey, EntriesGiveId};
 ghost use Rattle.change_model.specs.Numbering.{AreIdsIn, AreIdsAt, AreSpelled, BindWell, IsIdIn};
@@ -19,10 +19,10 @@ use crate::numbering::{id_at, key_at, label_of};
 use crate::vocabulary::Vocabulary;
 use base_core::{Want, first_u64};
 use fed_bytes::Key;
+use row_core::{Cell, Row};
 use std::alloc::Global;
 use std::sync::Arc;
 use term_core::Term;
-use window_core::{Cell, Row};
 
 /// The ids that these terms have once their labels are bound, if `ids` are those of an earlier time, and `later` are the
 /// entries since.

@@ -1,10 +1,10 @@
 use super::*;
 use base_core::{List, Text, Want};
+use row_core::{Cell, Row, Rows};
 use std::alloc::Global;
 use std::sync::Arc;
 use std::test::Fail;
 use term_core::{Statement, Term};
-use window_core::{Cell, Row, Rows};
 
 const SPO_1_2_3: &[u8] = b"\0\0\0\0\0\0\0\x01\0\0\0\0\0\0\0\x02\0\0\0\0\0\0\0\x03";
 

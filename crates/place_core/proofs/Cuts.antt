@@ -7,8 +7,8 @@ use Rattle.base_core.specs.Lists.{Has}
 use Rattle.fed_bytes.specs.declared.span.Span.{Span}
 use Rattle.fed_bytes.specs.Keys.{IsBefore, IsUpTo, IsBeforeEnd, IsIn}
 use Rattle.fed_bytes.proofs.Orders.{no_answer, turned, up_to-itself, up_to-chain, up_to_end}
-use Rattle.window_core.specs.declared.rows.Index.{Index}
-use Rattle.window_core.specs.declared.rows.Index.TheVariants.{T2i, I2t, Spo, Pos, Osp}
+use Rattle.row_core.specs.declared.rows.Index.{Index}
+use Rattle.row_core.specs.declared.rows.Index.TheVariants.{T2i, I2t, Spo, Pos, Osp}
 use Rattle.place_board.specs.declared.view.Known.{Known}
 use Rattle.place_board.specs.Tokens.{Listing, IsSoundList}
 use Rattle.place_core.specs.declared.shards.Line.{Line}

@@ -3,7 +3,7 @@ use Rattle.std.proofs.Common.{◌≡◌, ◌⊎◌, ◌<◌, ◌≤◌, ℕ, suc
 use Rattle.base_core.specs.Lists.{Has}
 use Rattle.fed_bytes.specs.Keys.{IsIn, IsUpTo}
 use Rattle.fed_bytes.proofs.Orders.{no_answer, up_to_end}
-use Rattle.window_core.specs.declared.rows.Index.{Index}
+use Rattle.row_core.specs.declared.rows.Index.{Index}
 use Rattle.place_core.specs.declared.shards.Line.{Line}
 use Rattle.place_core.specs.Shown.{place_of}
 use Rattle.place_core.specs.Places.{HasKey, LineComesBefore}

@@ -3,7 +3,7 @@ use Rattle.std.proofs.Common.{◌≡◌, ◌↔◌, ◌⊎◌, ◌<◌, ℕ, zer
 use Rattle.base_core.specs.Lists.{Has}
 use Rattle.fed_bytes.specs.declared.span.Span.{Span}
 use Rattle.fed_bytes.specs.Keys.{IsIn}
-use Rattle.window_core.specs.declared.rows.Index.{Index}
+use Rattle.row_core.specs.declared.rows.Index.{Index}
 use Rattle.place_board.specs.declared.view.Known.{Known}
 use Rattle.place_board.specs.Tokens.{Noted, Listing, IsSoundList, copied, list_met, list_retired}
 use Rattle.place_board.proofs.Members.{has_left, without_sub, without_not, without_keeps}

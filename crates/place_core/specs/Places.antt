@@ -5,7 +5,7 @@ use Rattle.fed_bytes.specs.declared.span.Span.{Span}
 use Rattle.fed_bytes.specs.Keys.{IsBefore, IsIn}
 use Rattle.place_board.specs.declared.view.Known.{Known}
 use Rattle.place_board.specs.Tokens.{Noted, Listing, IsSoundList, list_met, list_listed}
-use Rattle.window_core.specs.declared.rows.Index.{Index}
+use Rattle.row_core.specs.declared.rows.Index.{Index}
 use Rattle.place_core.specs.declared.shards.Line.{Line}
 use Rattle.place_core.specs.declared.shards.Born.{Born}
 use Rattle.place_core.specs.declared.shards.Locator.{Locator}

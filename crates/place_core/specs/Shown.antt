@@ -4,8 +4,8 @@ use Rattle.base_core.specs.Lists.{Has}
 use Rattle.fed_bytes.specs.declared.span.Span.{Span}
 use Rattle.place_board.specs.declared.view.Known.{Known}
 use Rattle.place_board.specs.Tokens.{Noted}
-use Rattle.window_core.specs.declared.rows.Index.{Index}
-use Rattle.window_core.specs.declared.rows.Index.TheVariants.{T2i, I2t, Spo, Pos, Osp}
+use Rattle.row_core.specs.declared.rows.Index.{Index}
+use Rattle.row_core.specs.declared.rows.Index.TheVariants.{T2i, I2t, Spo, Pos, Osp}
 use Rattle.place_core.specs.declared.shards.Born.{Born}
 use Rattle.place_core.specs.declared.shards.Locator.{Locator}
 

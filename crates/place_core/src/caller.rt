@@ -7,9 +7,9 @@ use crate::{Born, Locator, PlaceRefusal, PlaceState, index_place};
 use base_core::List;
 use fed_bytes::{Key, Span};
 use place_board::{ListSeat, PlaceFault, ServiceSeat};
+use row_core::Index;
 use std::alloc::Global;
 use std::test::Fail;
-use window_core::Index;
 
 /// Cuts the shard that has the key into two, before the key and from it on. False where its span begins with the key. The
 /// service, whose number is `own`, bears both.

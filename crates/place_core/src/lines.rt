@@ -11,7 +11,7 @@ ghost use Rattle.place_core.specs.Lines.{up_to, AreLines, IsHeldAt, IsNumberAt, 
 
 use crate::shards::{Born, Line, index_place};
 use place_board::ListSeat;
-use window_core::Index;
+use row_core::Index;
 
 /// Where the line stands that has the key.
 pub(crate) fn holder(lines: &[Line], index: Index, key: &[u8]) -> usize

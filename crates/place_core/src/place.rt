@@ -12,10 +12,10 @@ use crate::shards::{Born, Line, Locator};
 use base_core::{List, Want};
 use fed_bytes::Span;
 use place_board::{ListSeat, PlaceBoard, PlaceNote};
+use row_core::Index;
 use std::alloc::{AllocError, Global};
 use std::marker::Model;
 use std::sync::Arc;
-use window_core::Index;
 
 /// The listed shards of all indexes. Of each index each key is in one of them.
 #[derive(Drop)]

@@ -4,7 +4,7 @@ ghost use Rattle.place_core.specs.Shown.{place_of};
 
 use fed_bytes::Span;
 use place_board::PlaceNote;
-use window_core::Index;
+use row_core::Index;
 
 /// A shard that a service bore. Its note has the number fresh until the place lists it.
 #[derive(Drop)]

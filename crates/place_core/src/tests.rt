@@ -5,9 +5,9 @@ use crate::caller::{cut_at, replace_twice, whole_place};
 use crate::{PlaceRefusal, PlaceState};
 use base_core::Want;
 use place_board::{ServiceSeat, make_places};
+use row_core::Index;
 use std::alloc::Global;
 use std::test::Fail;
-use window_core::Index;
 
 // A place of one shard for each index, which service 1 of two bears, and the seat of that service.
 fn two_services(alloc: Global) -> Result<(PlaceState, ServiceSeat), Fail>

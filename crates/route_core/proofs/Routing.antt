@@ -4,7 +4,7 @@ use Rattle.base_core.specs.Lists.{Has}
 use Rattle.fed_bytes.specs.declared.span.Span.{Span}
 use Rattle.fed_bytes.specs.Keys.{IsIn, IsUpTo}
 use Rattle.fed_bytes.proofs.Orders.{no_answer, up_to-itself, up_to_end}
-use Rattle.window_core.specs.declared.rows.Index.{Index}
+use Rattle.row_core.specs.declared.rows.Index.{Index}
 use Rattle.place_board.specs.Tokens.{Noted, met, copied}
 use Rattle.place_board.proofs.Members.{has_left, has_right}
 use Rattle.place_core.specs.declared.shards.Locator.{Locator}

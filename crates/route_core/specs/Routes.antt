@@ -2,7 +2,7 @@
 use Rattle.std.specs.Prelude.{◌≡◌, ◌↔◌, ◌⊎◌, ℕ, List}
 use Rattle.base_core.specs.Lists.{Has}
 use Rattle.fed_bytes.specs.Keys.{IsIn}
-use Rattle.window_core.specs.declared.rows.Index.{Index}
+use Rattle.row_core.specs.declared.rows.Index.{Index}
 use Rattle.place_board.specs.Tokens.{Noted}
 use Rattle.place_core.specs.declared.shards.Locator.{Locator}
 use Rattle.place_core.specs.Shown.{IsShownBy}

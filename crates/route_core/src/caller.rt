@@ -7,8 +7,8 @@ ghost use Rattle.place_core.specs.Places.{HasKey, located};
 use crate::Route;
 use base_core::Want;
 use place_core::PlaceState;
+use row_core::Index;
 use std::alloc::Global;
-use window_core::Index;
 
 /// The number of the shard that has the key: the route's, or else the place's, which the route then knows too.
 pub fn find(

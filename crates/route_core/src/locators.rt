@@ -13,7 +13,7 @@ ghost use Rattle.route_core.specs.Routes.{LocatorComesBefore, AreOverlapping};
 
 use fed_bytes::Span;
 use place_core::{Locator, index_place};
-use window_core::Index;
+use row_core::Index;
 
 /// Where the locators begin that stand behind the key.
 pub(crate) fn first_behind(locators: &[Locator], index: Index, key: &[u8]) -> usize

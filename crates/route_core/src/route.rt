@@ -14,10 +14,10 @@ use crate::locators::{
 use base_core::Want;
 use place_board::{PlaceBoard, PlaceNote};
 use place_core::Locator;
+use row_core::Index;
 use std::alloc::Global;
 use std::marker::Model;
 use std::sync::Arc;
-use window_core::Index;
 
 /// Where a session knows keys to be: locators, no two of which have a key of one index, and a note that knows them all.
 #[derive(Drop)]

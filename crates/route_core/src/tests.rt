@@ -6,9 +6,9 @@ use base_core::Want;
 use fed_bytes::{Key, Span};
 use place_board::{ServiceSeat, make_places};
 use place_core::{Locator, index_place};
+use row_core::Index;
 use std::alloc::Global;
 use std::test::Fail;
-use window_core::Index;
 
 // A route without locators, and the seat of service 1.
 fn new_route(alloc: Global) -> Result<(Route, ServiceSeat), Fail>

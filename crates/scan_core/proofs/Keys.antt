@@ -6,7 +6,7 @@ use Rattle.std.specs.Cmp.Lexicographic.{slice_cmp}
 use Rattle.fed_bytes.specs.declared.span.Span.{Span}
 use Rattle.fed_bytes.specs.Keys.{IsBefore, IsUpTo, IsBeforeEnd, IsIn}
 use Rattle.fed_bytes.proofs.Orders.{no_answer, turned, up_to-itself, up_to-chain, up_to_before, before_up_to, up_to_end}
-use Rattle.window_core.proofs.Order.{before_is_up_to}
+use Rattle.row_core.proofs.Order.{before_is_up_to}
 use Rattle.scan_core.specs.Parts.{read_end, GoesOn}
 
 -- one key stands before another, or the other stands up to it

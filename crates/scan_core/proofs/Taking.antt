@@ -4,8 +4,8 @@ use Rattle.std.specs.Prelude.{Option, Some, None}
 use Rattle.fed_bytes.specs.declared.span.Span.{Span}
 use Rattle.fed_bytes.specs.Keys.{IsBeforeEnd, IsIn}
 use Rattle.fed_bytes.proofs.Orders.{no_answer, up_to-chain}
-use Rattle.window_core.specs.declared.rows.Row.{Row}
-use Rattle.window_core.specs.declared.rows.Reply.{Reply}
+use Rattle.row_core.specs.declared.rows.Row.{Row}
+use Rattle.row_core.specs.declared.rows.Reply.{Reply}
 use Rattle.scan_core.specs.Parts.{read_end, GoesOn}
 use Rattle.scan_core.specs.Scans.{Scanning, IsScan, IsFitting, Takes, asked_after}
 use Rattle.scan_core.proofs.Distinct.{distinct_put}

@@ -4,9 +4,9 @@ use Rattle.std.specs.List.{AllByRecursion}
 use Rattle.base_core.specs.Lists.{Has, AreDistinct}
 use Rattle.fed_bytes.specs.declared.span.Span.{Span}
 use Rattle.fed_bytes.specs.Keys.{IsBefore, IsBeforeEnd, IsIn}
-use Rattle.window_core.specs.declared.rows.Index.{Index}
-use Rattle.window_core.specs.declared.rows.Row.{Row}
-use Rattle.window_core.specs.declared.rows.Reply.{Reply}
+use Rattle.row_core.specs.declared.rows.Index.{Index}
+use Rattle.row_core.specs.declared.rows.Row.{Row}
+use Rattle.row_core.specs.declared.rows.Reply.{Reply}
 
 -- what is read of which index and at which time; what is left of it; whether nothing is; the number that was asked last, until
 -- its answer ends; the numbers that were asked and then found retired; up to where the shard that was asked is behind; and the

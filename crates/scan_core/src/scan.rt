@@ -13,10 +13,10 @@ use crate::retired::Retired;
 use base_core::Want;
 use fed_bytes::{Key, Span};
 use route_core::Route;
+use row_core::{Chunk, Index, Reply, Row, Rows};
 use std::alloc::Global;
 use std::marker::Model;
 use std::snapshot::Snapshot;
-use window_core::{Chunk, Index, Reply, Row, Rows};
 
 /// A span of one index that is read at one time. What a contract sees stands in `specs/Scans.antt`.
 #[derive(Drop)]

@@ -1,9 +1,9 @@
 use crate::{Scan, ScanFault};
 use base_core::Want;
 use fed_bytes::{Key, Span};
+use row_core::Index;
 use std::alloc::Global;
 use std::test::Fail;
-use window_core::Index;
 
 fn span_of(alloc: Global, left: &[u8], right: Option<&[u8]>) -> Result<Span, Want> {
     let left = Key::of(alloc, left)?;

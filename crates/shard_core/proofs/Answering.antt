@@ -5,12 +5,12 @@ use Rattle.std.specs.List.{AllByRecursion}
 use Rattle.base_core.specs.Lists.{Has}
 use Rattle.fed_bytes.specs.declared.span.Span.{Span}
 use Rattle.fed_bytes.specs.Keys.{IsIn}
-use Rattle.window_core.specs.declared.rows.Row.{Row}
-use Rattle.window_core.specs.declared.rows.Cell.{Cell}
-use Rattle.window_core.specs.declared.rows.Cell.TheVariants.{Value, Deleted}
-use Rattle.window_core.specs.declared.rows.Chunk.{Chunk}
-use Rattle.window_core.specs.Rows.{IsWithin, IsLast}
-use Rattle.window_core.proofs.Lists.{of_each, each, in_front, behind, in_one}
+use Rattle.row_core.specs.declared.rows.Row.{Row}
+use Rattle.row_core.specs.declared.rows.Cell.{Cell}
+use Rattle.row_core.specs.declared.rows.Cell.TheVariants.{Value, Deleted}
+use Rattle.row_core.specs.declared.rows.Chunk.{Chunk}
+use Rattle.row_core.specs.Rows.{IsWithin, IsLast}
+use Rattle.row_core.proofs.Lists.{of_each, each, in_front, behind, in_one}
 use Rattle.window_merge.specs.Together.{AreAdjacent as AdjacentBy, rows_of_all}
 use Rattle.window_merge.specs.Values.{IsValueCell, IsValueAt, IsPassed, AreValuesAt}
 use Rattle.change_model.specs.History.{History}

@@ -1,6 +1,6 @@
 -- A shard that stands for a history goes on to do so.
 use Rattle.std.proofs.Common.{◌≤◌, ◌++◌, arith}
-use Rattle.window_core.proofs.Lists.{each_weaker}
+use Rattle.row_core.proofs.Lists.{each_weaker}
 use Rattle.change_model.specs.Windows.{WindowData, WindowStandsFor}
 use Rattle.change_model.proofs.WindowSteps.{longer_history_law}
 use Rattle.shard_core.specs.Shards.{KeptHistoryLaw, KeptFloorLaw}

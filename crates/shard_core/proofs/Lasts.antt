@@ -1,7 +1,7 @@
 -- The last of several windows.
 use Rattle.std.proofs.Common.{◌≡◌, ◌+◌, ◌<◌, ℕ, List, [], ◌∷◌, ◌++◌, length, map, take, set, get_or, refl, sym, ap, ◌∙◌, arith}
 use Rattle.std.proofs.lemmas.List.{take_more, take_more_set, take_all, length-set}
-use Rattle.window_core.specs.declared.rows.Row.{Row}
+use Rattle.row_core.specs.declared.rows.Row.{Row}
 use Rattle.change_model.specs.WindowLaws.{IsNextWindow}
 use Rattle.shard_core.specs.declared.window.AnyWindow.{AnyWindow}
 use Rattle.shard_core.specs.Shards.{HaveNextLast}

@@ -2,9 +2,9 @@
 use Rattle.std.proofs.Common.{◌≡◌, ◌+◌, ◌≤◌, ℕ, suc, List, [], ◌∷◌, ◌++◌, length, map, sym, ap, ◌∙◌, subst, arith}
 use Rattle.std.specs.List.{AllByRecursion}
 use Rattle.fed_bytes.specs.declared.span.Span.{Span}
-use Rattle.window_core.specs.declared.rows.Row.{Row}
-use Rattle.window_core.specs.Windows.{IsWindow}
-use Rattle.window_core.proofs.Lists.{all_of_both, each_weaker}
+use Rattle.row_core.specs.declared.rows.Row.{Row}
+use Rattle.row_core.specs.Rows.{IsWindow}
+use Rattle.row_core.proofs.Lists.{all_of_both, each_weaker}
 use Rattle.change_model.specs.History.{History}
 use Rattle.change_model.specs.Windows.{WindowData, WindowStandsFor}
 use Rattle.change_model.specs.WindowLaws.{AreAdjacent, AreGivenAt}

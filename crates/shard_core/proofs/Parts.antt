@@ -7,10 +7,10 @@ use Rattle.base_core.specs.Lists.{Has}
 use Rattle.fed_bytes.specs.declared.span.Span.{Span}
 use Rattle.fed_bytes.specs.Keys.{IsUpTo, IsBeforeEnd, IsIn}
 use Rattle.fed_bytes.proofs.Orders.{before_up_to}
-use Rattle.window_core.specs.declared.rows.Row.{Row}
-use Rattle.window_core.specs.Rows.{StandInOrder, AreChanges}
-use Rattle.window_core.proofs.Lists.{of_each, each, in_front, behind, in_one}
-use Rattle.window_core.proofs.Order.{not_before_itself, front_in_order, back_in_order}
+use Rattle.row_core.specs.declared.rows.Row.{Row}
+use Rattle.row_core.specs.Rows.{StandInOrder, AreChanges}
+use Rattle.row_core.proofs.Lists.{of_each, each, in_front, behind, in_one}
+use Rattle.row_core.proofs.Order.{not_before_itself, front_in_order, back_in_order}
 use Rattle.window_merge.specs.Parting.{IsPast, ArePartedAt}
 use Rattle.shard_core.specs.Viewing.{IsPartIn}
 

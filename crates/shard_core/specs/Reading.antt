@@ -4,10 +4,10 @@ use Rattle.base_core.specs.Lists.{Has}
 use Rattle.base_core.specs.Faults.{HasRisen}
 use Rattle.fed_bytes.specs.declared.span.Span.{Span}
 use Rattle.fed_bytes.specs.Keys.{IsBeforeEnd, IsIn}
-use Rattle.window_core.specs.declared.rows.Row.{Row}
-use Rattle.window_core.specs.declared.rows.Chunk.{Chunk}
+use Rattle.row_core.specs.declared.rows.Row.{Row}
+use Rattle.row_core.specs.declared.rows.Chunk.{Chunk}
 use Rattle.window_core.specs.declared.fault.WindowFault.TheVariants.{Failed}
-use Rattle.window_core.specs.Rows.{StandInOrder}
+use Rattle.row_core.specs.Rows.{StandInOrder}
 use Rattle.window_core.specs.Windows.{IsNoDamage}
 use Rattle.window_merge.specs.Together.{rows_of_all}
 use Rattle.change_model.specs.History.{History}

@@ -5,8 +5,8 @@ use Rattle.fed_bytes.specs.declared.span.Span.{Span}
 use Rattle.fed_bytes.specs.Keys.{IsIn}
 use Rattle.window_core.specs.declared.live.LiveWindow.{LiveWindow}
 use Rattle.window_core.specs.contracts.live.LiveWindowWindow.TheImpl as live_window
-use Rattle.window_core.specs.declared.rows.Row.{Row}
-use Rattle.window_core.specs.Rows.{StandInOrder}
+use Rattle.row_core.specs.declared.rows.Row.{Row}
+use Rattle.row_core.specs.Rows.{StandInOrder}
 use Rattle.change_model.specs.Windows.{WindowData}
 use Rattle.shard_core.specs.declared.window.AnyWindow.{AnyWindow}
 use Rattle.shard_core.specs.contracts.window.AnyWindowWindow.TheImpl as any_window

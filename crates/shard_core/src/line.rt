@@ -1,5 +1,5 @@
 //! What is told of a shard.
-use window_core::Index;
+use row_core::Index;
 
 /// What a summary tells of a shard.
 #[derive(Clone, Copy, Debug, PartialEq, Eq)]

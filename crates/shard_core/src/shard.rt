@@ -1,6 +1,6 @@
 //! A shard.
 ghost use Rattle.std.specs.Prelude.{◌≡◌, ◌↔◌, ◌+◌, ◌<◌, ◌≤◌, ◌∷◌, [], ℕ, length, map, false, IfOk, IfErr, OnOk, OnErr, Err};
-ghost use Rattle.window_core.specs.Rows.{AreChanges, StandInOrder};
+ghost use Rattle.row_core.specs.Rows.{AreChanges, StandInOrder};
 ghost use Rattle.window_core.specs.Windows.{IsPart, IsPassage};
 ghost use Rattle.window_merge.specs.Values.{AreValuesAt, AreAskedFor};
 ghost use Rattle.change_model.specs.History.{History};
@@ -18,9 +18,10 @@ use base_core::Want;
 use change_model::Entry;
 use disk_core::Disk;
 use fed_bytes::Span;
+use row_core::{Chunk, Index, Row, Rows};
 use std::alloc::Global;
 use std::marker::Model;
-use window_core::{Chunk, Index, LiveWindow, Row, Rows, Window};
+use window_core::{LiveWindow, Window};
 use window_merge::{count_before, count_before_end, values_at};
 
 /// The rows of one index whose keys are in one span, up to a time: windows behind each other, the oldest first, of which

@@ -1,6 +1,6 @@
 ghost use Rattle.std.specs.Prelude.{◌≡◌, ◌+◌, ◌≤◌, ℕ, IfOk};
-ghost use Rattle.window_core.specs.declared.rows.Index.TheVariants.{Spo};
-ghost use Rattle.window_core.specs.Rows.{AreChanges};
+ghost use Rattle.row_core.specs.declared.rows.Index.TheVariants.{Spo};
+ghost use Rattle.row_core.specs.Rows.{AreChanges};
 ghost use Rattle.shard_core.specs.Shards.{HaveFloorsUpTo};
 
 use super::*;
@@ -8,9 +8,9 @@ use base_core::Want;
 use change_model::Entry;
 use disk_core::NoDisk;
 use fed_bytes::{Key, Span};
+use row_core::{Cell, Chunk, Index, Row, Rows};
 use std::alloc::Global;
 use std::test::Fail;
-use window_core::{Cell, Chunk, Index, Row, Rows};
 
 fn span(alloc: Global, left: &[u8], right: &[u8]) -> Result<Span, Want> {
     let left = Key::of(alloc, left)?;

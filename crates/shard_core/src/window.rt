@@ -5,8 +5,9 @@ ghost use Rattle.shard_core.specs.declared.window.AnyWindow.TheVariants.{Live};
 
 use disk_core::Disk;
 use fed_bytes::Span;
+use row_core::{Chunk, Row};
 use std::alloc::Global;
-use window_core::{Chunk, LiveWindow, Row, Window, WindowFault};
+use window_core::{LiveWindow, Window, WindowFault};
 
 /// A window of a shard.
 #[derive(Drop)]

@@ -3,8 +3,9 @@ ghost use Rattle.std.specs.Prelude.{◌≡◌, ◌+◌, IfOk, OnOk};
 
 use base_core::{Want, put_u64};
 use fed_bytes::{Key, Span};
+use row_core::{Cell, Row, Rows};
 use std::alloc::Global;
-use window_core::{Cell, LiveWindow, Row, Rows, Window};
+use window_core::{LiveWindow, Window};
 
 /// An odd number, so that different numbers have different keys, in no order.
 const SPREAD: u64 = 0x9E37_79B9_7F4A_7C15;

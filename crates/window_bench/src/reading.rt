@@ -2,8 +2,9 @@
 use crate::filling::key_of;
 use disk_core::NoDisk;
 use fed_bytes::Key;
+use row_core::Chunk;
 use std::alloc::Global;
-use window_core::{Chunk, Window, WindowFault};
+use window_core::{Window, WindowFault};
 
 /// How many keys are read at once.
 const KEYS: u32 = 512;

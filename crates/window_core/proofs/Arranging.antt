@@ -5,11 +5,11 @@ use Rattle.std.specs.Prelude.{◌⊎◌}
 use Rattle.std.specs.List.{AllByRecursion}
 use Rattle.std.specs.Ordering.{ordering_reverse, match_ordering}
 use Rattle.base_core.specs.Lists.{Has}
-use Rattle.window_core.specs.declared.rows.Row.{Row}
-use Rattle.window_core.specs.Rows.{ComesBefore, StandInOrder}
-use Rattle.window_core.specs.Runs.{row_cmp, put_in, arranged, all_of, merged, AreOlder, RunsRise, AreRuns}
-use Rattle.window_core.proofs.Lists.{of_each, each, each_weaker, in_front, behind, in_one}
-use Rattle.window_core.proofs.Order.{row_total, comes_before, less_of, tied, comes_before-chain, not_before_own, not_before_tied, compared}
+use Rattle.row_core.specs.declared.rows.Row.{Row}
+use Rattle.row_core.specs.Rows.{ComesBefore, StandInOrder, row_cmp}
+use Rattle.window_core.specs.Runs.{put_in, arranged, all_of, merged, AreOlder, RunsRise, AreRuns}
+use Rattle.row_core.proofs.Lists.{of_each, each, each_weaker, in_front, behind, in_one}
+use Rattle.row_core.proofs.Order.{row_total, comes_before, less_of, tied, comes_before-chain, not_before_own, not_before_tied, compared}
 
 -- ---- which rows
 has_by : (o : Ordering) (row first other : Row) (rows rest : List Row) → (Has rest other → (row ≡ other) ⊎ Has rows other)

@@ -9,12 +9,12 @@ use Rattle.std.proofs.lemmas.List.{take-append-drop, drop_more, drop_all, get_or
 use Rattle.base_core.specs.Lists.{Has}
 use Rattle.fed_bytes.specs.Keys.{IsBefore, IsUpTo}
 use Rattle.fed_bytes.proofs.Orders.{no_answer, turned, before_up_to, up_to-chain, up_to-itself}
-use Rattle.window_core.specs.declared.rows.Row.{Row}
+use Rattle.row_core.specs.declared.rows.Row.{Row}
 use Rattle.window_core.specs.Packed.{row_at}
-use Rattle.window_core.specs.Rows.{ComesBefore, StandInOrder}
+use Rattle.row_core.specs.Rows.{ComesBefore, StandInOrder}
 use Rattle.window_core.specs.Runs.{all_of, run_at, number_at, AreRuns, RunsRise, IsLeftOf, IsLeastOf, IsLeast, IsFirstFrom, ArePassedTo}
-use Rattle.window_core.proofs.Lists.{of_each, in_front, in_one}
-use Rattle.window_core.proofs.Order.{up_to_is, up_to_later, first_or_later}
+use Rattle.row_core.proofs.Lists.{of_each, in_front, in_one}
+use Rattle.row_core.proofs.Order.{up_to_is, up_to_later, first_or_later}
 use Rattle.window_core.proofs.Arranging.{all_of-append, older_runs}
 use Rattle.window_core.proofs.Merging.{drop_at_row, drop_in_order, has_dropped, has_at_index, left_up_to}
 

@@ -4,11 +4,11 @@ use Rattle.std.specs.Prelude.{Option, Some, None}
 use Rattle.std.specs.List.{slice_get}
 use Rattle.base_core.specs.Lists.{Has}
 use Rattle.fed_bytes.specs.Keys.{IsUpTo}
-use Rattle.window_core.specs.declared.rows.Row.{Row}
-use Rattle.window_core.specs.declared.rows.Chunk.{Chunk}
+use Rattle.row_core.specs.declared.rows.Row.{Row}
+use Rattle.row_core.specs.declared.rows.Chunk.{Chunk}
 use Rattle.window_core.specs.Caller.{IsFirstKey, IsFirstAt}
-use Rattle.window_core.specs.Rows.{AreFrom, HaveKeys, EndsAt, IsChunk, IsLast}
-use Rattle.window_core.proofs.Order.{up_to_any_later}
+use Rattle.row_core.specs.Rows.{AreFrom, HaveKeys, EndsAt, IsChunk, IsLast}
+use Rattle.row_core.proofs.Order.{up_to_any_later}
 
 no_keys_by : (keys : List (List ℕ)) → ((key : List ℕ) → Has keys key → ⊥) → length keys ≡ 0
 no_keys_by [] f = refl

@@ -5,12 +5,12 @@ use Rattle.base_core.specs.Lists.{Has}
 use Rattle.fed_bytes.specs.declared.span.Span.{Span}
 use Rattle.fed_bytes.specs.Keys.{IsBefore, IsUpTo, IsBeforeEnd, IsIn}
 use Rattle.fed_bytes.proofs.Orders.{up_to_before}
-use Rattle.window_core.specs.declared.rows.Row.{Row}
-use Rattle.window_core.specs.declared.rows.Chunk.{Chunk}
-use Rattle.window_core.specs.Rows.{ComesBefore, StandInOrder, IsWithin, AreWithin, IsLast, AreFrom, HaveKeys, BeginWith, EndsAt, IsChunk}
+use Rattle.row_core.specs.declared.rows.Row.{Row}
+use Rattle.row_core.specs.declared.rows.Chunk.{Chunk}
+use Rattle.row_core.specs.Rows.{ComesBefore, StandInOrder, IsWithin, AreWithin, IsLast, AreFrom, HaveKeys, BeginWith, EndsAt, IsChunk}
 use Rattle.window_core.specs.Windows.{IsFound, IsOnward, IsPart}
-use Rattle.window_core.proofs.Lists.{of_each, each, in_front, behind}
-use Rattle.window_core.proofs.Order.{front_in_order, front_before}
+use Rattle.row_core.proofs.Lists.{of_each, each, in_front, behind}
+use Rattle.row_core.proofs.Order.{front_in_order, front_before}
 
 pub found_last : (rows : List Row) (span : Span) (from upto : ℕ) (key : List ℕ) (time : ℕ) → AreWithin span from upto rows
     → (found : Option Row) → IsLast rows key time found → IsFound span from upto key time found

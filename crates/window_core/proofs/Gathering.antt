@@ -6,15 +6,15 @@ use Rattle.std.proofs.lemmas.List.{length-set, get_or_read}
 use Rattle.base_core.specs.Lists.{Has}
 use Rattle.fed_bytes.specs.Keys.{IsBefore, IsUpTo}
 use Rattle.fed_bytes.proofs.Orders.{before_up_to, up_to-itself, up_to-chain}
-use Rattle.window_core.specs.declared.rows.Row.{Row}
-use Rattle.window_core.specs.declared.rows.Chunk.{Chunk}
+use Rattle.row_core.specs.declared.rows.Row.{Row}
+use Rattle.row_core.specs.declared.rows.Chunk.{Chunk}
 use Rattle.window_core.specs.Packed.{row_at}
 use Rattle.window_core.specs.Gathering.{EndWith, IsLeftBy}
-use Rattle.window_core.specs.Rows.{ComesBefore, StandInOrder, AreFrom, AreKeysOf, HaveKeys, BeginWith, EndsAt, IsChunk}
+use Rattle.row_core.specs.Rows.{ComesBefore, StandInOrder, AreFrom, AreKeysOf, HaveKeys, BeginWith, EndsAt, IsChunk}
 use Rattle.window_core.specs.Runs.{reaches, all_of, merged, run_at, number_at, AreRuns, IsLeftOf, IsLeast, IsLeastOf, ArePassedTo}
-use Rattle.window_core.proofs.Lists.{of_each, in_front, behind, in_one}
-use Rattle.window_core.proofs.Order.{before_is_up_to, not_before_itself, not_before_own, comes_before-chain, up_to_is, up_to_later, front_in_order, front_before, joined_in_order}
-use Rattle.window_core.proofs.Filters.{kept, passes, filter_in_order}
+use Rattle.row_core.proofs.Lists.{of_each, in_front, behind, in_one}
+use Rattle.row_core.proofs.Order.{before_is_up_to, not_before_itself, not_before_own, comes_before-chain, up_to_is, up_to_later, front_in_order, front_before, joined_in_order}
+use Rattle.row_core.proofs.Filters.{kept, passes, filter_in_order}
 use Rattle.window_core.proofs.Searching.{reached, reaches_later, reaches_own, stands_behind}
 use Rattle.window_core.proofs.Arranging.{merged_has, arranged_in_order}
 use Rattle.window_core.proofs.Merging.{has_dropped, has_at_index}

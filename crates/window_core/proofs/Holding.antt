@@ -5,11 +5,11 @@ use Rattle.std.proofs.lemmas.List.{append-nil, take_more, take_all, get_or_read}
 use Rattle.base_core.specs.Lists.{Has}
 use Rattle.fed_bytes.specs.declared.span.Span.{Span}
 use Rattle.fed_bytes.specs.Keys.{IsIn}
-use Rattle.window_core.specs.declared.rows.Row.{Row}
+use Rattle.row_core.specs.declared.rows.Row.{Row}
 use Rattle.window_core.specs.Packed.{row_at}
-use Rattle.window_core.specs.Rows.{StandInOrder, IsWithin, AreWithin, AreChanges, AreExtended}
+use Rattle.row_core.specs.Rows.{StandInOrder, IsWithin, AreWithin, AreChanges, AreExtended}
 use Rattle.window_core.specs.Runs.{arranged, run_at, all_of, merged, AreOlder, AreRuns, AreThoseIn}
-use Rattle.window_core.proofs.Lists.{of_each, each}
+use Rattle.row_core.proofs.Lists.{of_each, each}
 use Rattle.window_core.proofs.Arranging.{arranged_in_order, arranged_same, are_older, merged_has, all_of-append, all_of_one}
 use Rattle.window_core.proofs.Merging.{has_dropped, has_at_index}
 use Rattle.window_core.proofs.Choosing.{run_in_all}

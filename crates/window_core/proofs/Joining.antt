@@ -4,10 +4,10 @@ use Rattle.std.specs.Prelude.{◌⊎◌}
 use Rattle.std.specs.List.{AllByRecursion}
 use Rattle.std.proofs.lemmas.List.{take-append-drop, take_more, drop_more, take_all, drop_all, length-take-le, get_or_read}
 use Rattle.base_core.specs.Lists.{Has}
-use Rattle.window_core.specs.declared.rows.Row.{Row}
-use Rattle.window_core.specs.Rows.{StandInOrder}
+use Rattle.row_core.specs.declared.rows.Row.{Row}
+use Rattle.row_core.specs.Rows.{StandInOrder}
 use Rattle.window_core.specs.Runs.{all_of, run_at, AreOlder, RunsRise, AreRuns, IsMerge}
-use Rattle.window_core.proofs.Lists.{of_each, each, all_of_both, in_front, behind, in_one}
+use Rattle.row_core.proofs.Lists.{of_each, each, all_of_both, in_front, behind, in_one}
 use Rattle.window_core.proofs.Arranging.{older_of, are_older, older_runs, all_of-append, all_of_one}
 
 -- the runs from `kept` on and the new rows are in one run

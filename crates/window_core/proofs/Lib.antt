@@ -1,14 +1,11 @@
 pub mod Arranging
 pub mod Choosing
-pub mod Filters
 pub mod FirstKey
 pub mod Found
 pub mod Gathering
 pub mod Holding
 pub mod Joining
-pub mod Lists
 pub mod Merging
-pub mod Order
 pub mod Packing
 pub mod Passage
 pub mod Searching

@@ -6,13 +6,13 @@ use Rattle.std.proofs.lemmas.Bool.{cases_lt}
 use Rattle.base_core.specs.Lists.{Has}
 use Rattle.fed_bytes.specs.Keys.{IsBefore, IsUpTo}
 use Rattle.fed_bytes.proofs.Orders.{before_up_to, up_to-chain}
-use Rattle.window_core.specs.declared.rows.Row.{Row}
-use Rattle.window_core.specs.declared.rows.Cell.TheVariants.{Deleted}
+use Rattle.row_core.specs.declared.rows.Row.{Row}
+use Rattle.row_core.specs.declared.rows.Cell.TheVariants.{Deleted}
 use Rattle.window_core.specs.Packed.{row_at, row_with}
-use Rattle.window_core.specs.Rows.{ComesBefore, StandInOrder}
+use Rattle.row_core.specs.Rows.{ComesBefore, StandInOrder}
 use Rattle.window_core.specs.Runs.{AreOlder, IsMerge, IsOlderNext, IsNewerNext}
-use Rattle.window_core.proofs.Lists.{of_each, in_front, behind, in_one}
-use Rattle.window_core.proofs.Order.{back_in_order, joined_in_order, up_to_is, up_to_any_later}
+use Rattle.row_core.proofs.Lists.{of_each, in_front, behind, in_one}
+use Rattle.row_core.proofs.Order.{back_in_order, joined_in_order, up_to_is, up_to_any_later}
 use Rattle.window_core.proofs.Arranging.{one_order, older_of}
 
 -- ---- the law

@@ -3,11 +3,11 @@ use Rattle.std.proofs.Common.{◌≡◌, ◌+◌, ◌-◌, ◌≤◌, ℕ, List,
 use Rattle.std.specs.Prelude.{Option, Some, None, OnOk, OnErr, slice_range}
 use Rattle.std.specs.List.{AllByRecursion}
 use Rattle.std.proofs.lemmas.List.{map-append, take-append-le, drop-append-le, drop_at, take_at, length-append, length-drop, append-nil}
-use Rattle.window_core.specs.declared.rows.Row.{Row}
-use Rattle.window_core.specs.declared.rows.Cell.TheVariants.{Value, Deleted}
+use Rattle.row_core.specs.declared.rows.Row.{Row}
+use Rattle.row_core.specs.declared.rows.Cell.TheVariants.{Value, Deleted}
 use Rattle.window_core.specs.declared.packed.Spot.{Spot}
 use Rattle.window_core.specs.Packed.{row_with, row_in, rows_in, cell_in, value_length, IsStored}
-use Rattle.window_core.proofs.Lists.{each_weaker}
+use Rattle.row_core.proofs.Lists.{each_weaker}
 
 pub on_err : {T E : Type 0} (result : Result T E) (P : Type 0) → P → OnErr result P
 on_err (Ok value) P p = tt

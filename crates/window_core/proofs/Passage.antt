@@ -5,12 +5,12 @@ use Rattle.base_core.specs.Lists.{Has, AreDistinct}
 use Rattle.fed_bytes.specs.declared.span.Span.{Span}
 use Rattle.fed_bytes.specs.Keys.{IsBefore, IsUpTo, IsIn}
 use Rattle.fed_bytes.proofs.Orders.{before_up_to}
-use Rattle.window_core.specs.declared.rows.Row.{Row}
-use Rattle.window_core.specs.declared.rows.Chunk.{Chunk}
-use Rattle.window_core.specs.Rows.{ComesBefore, StandInOrder, IsWithin, AreWithin, HaveKeys, EndsAt, IsChunk, Rise}
+use Rattle.row_core.specs.declared.rows.Row.{Row}
+use Rattle.row_core.specs.declared.rows.Chunk.{Chunk}
+use Rattle.row_core.specs.Rows.{ComesBefore, StandInOrder, IsWithin, AreWithin, HaveKeys, EndsAt, IsChunk, Rise}
 use Rattle.window_core.specs.Windows.{ArePassed, IsPassage}
-use Rattle.window_core.proofs.Lists.{of_each, each, in_front, behind, in_one}
-use Rattle.window_core.proofs.Order.{not_before_itself, up_to_any_later}
+use Rattle.row_core.proofs.Lists.{of_each, each, in_front, behind, in_one}
+use Rattle.row_core.proofs.Order.{not_before_itself, up_to_any_later}
 use Rattle.window_core.proofs.Found.{next_follows, part_chunk}
 
 abbrev pub Bears : List Row → List ℕ → Type 0

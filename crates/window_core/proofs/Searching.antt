@@ -10,12 +10,12 @@ use Rattle.std.proofs.lemmas.List.{take-append-drop, drop_more, drop_all, get_or
 use Rattle.base_core.specs.Lists.{Has}
 use Rattle.fed_bytes.specs.Keys.{IsBefore}
 use Rattle.fed_bytes.proofs.Orders.{no_answer, before_up_to}
-use Rattle.window_core.specs.declared.rows.Row.{Row}
+use Rattle.row_core.specs.declared.rows.Row.{Row}
 use Rattle.window_core.specs.Packed.{row_at}
-use Rattle.window_core.specs.Rows.{ComesBefore, StandInOrder, IsAt, IsLast}
+use Rattle.row_core.specs.Rows.{ComesBefore, StandInOrder, IsAt, IsLast}
 use Rattle.window_core.specs.Runs.{reaches, IsFirstFrom, IsFoundAt, all_of, merged, run_at, AreRuns}
-use Rattle.window_core.proofs.Lists.{of_each, each, all_of_both, in_front as in_run, in_one}
-use Rattle.window_core.proofs.Order.{one_key, not_before_itself, up_to_later, first_or_later, front_before}
+use Rattle.row_core.proofs.Lists.{of_each, each, all_of_both, in_front as in_run, in_one}
+use Rattle.row_core.proofs.Order.{one_key, not_before_itself, up_to_later, first_or_later, front_before}
 use Rattle.window_core.proofs.Arranging.{merged_has, all_of-append, older_runs}
 use Rattle.window_core.proofs.Merging.{drop_at_row, take_at_row, drop_in_order, has_dropped}
 

@@ -5,11 +5,11 @@ use Rattle.std.proofs.lemmas.List.{take_more, drop_more, take_all, drop_all, app
 use Rattle.base_core.specs.Lists.{Has}
 use Rattle.fed_bytes.specs.declared.span.Span.{Span}
 use Rattle.fed_bytes.specs.Keys.{IsIn}
-use Rattle.window_core.specs.declared.rows.Row.{Row}
-use Rattle.window_core.specs.Rows.{StandInOrder}
+use Rattle.row_core.specs.declared.rows.Row.{Row}
+use Rattle.row_core.specs.Rows.{StandInOrder}
 use Rattle.window_core.specs.Runs.{IsTaken, AreThoseIn}
-use Rattle.window_core.proofs.Lists.{in_front, behind, in_one}
-use Rattle.window_core.proofs.Order.{front_in_order, back_in_order, front_before, joined_in_order}
+use Rattle.row_core.proofs.Lists.{in_front, behind, in_one}
+use Rattle.row_core.proofs.Order.{front_in_order, back_in_order, front_before, joined_in_order}
 
 -- of the first `count` rows those in the span are taken
 pub record IsTaking (span : Span) (rows : List Row) (count : ℕ) (run : List Row) : Type 0 where

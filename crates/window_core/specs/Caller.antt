@@ -2,8 +2,8 @@
 use Rattle.std.specs.Prelude.{◌≡◌, ℕ, List, Option, None, ◌⊎◌}
 use Rattle.base_core.specs.Lists.{Has}
 use Rattle.fed_bytes.specs.Keys.{IsUpTo}
-use Rattle.window_core.specs.declared.rows.Row.{Row}
-use Rattle.window_core.specs.Rows.{IsLast}
+use Rattle.row_core.specs.declared.rows.Row.{Row}
+use Rattle.row_core.specs.Rows.{IsLast}
 
 -- the key is the first of a row from a key on
 pub record IsFirstKey (rows : List Row) (key first : List ℕ) : Type 0 where

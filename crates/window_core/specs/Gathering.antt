@@ -1,6 +1,6 @@
 -- Private: how rows are gathered into a chunk, key by key.
 use Rattle.std.specs.Prelude.{◌≡◌, ℕ, ◌+◌, List, [], ◌∷◌, ◌++◌, Option, Some, None, ◌⊎◌}
-use Rattle.window_core.specs.declared.rows.Row.{Row}
+use Rattle.row_core.specs.declared.rows.Row.{Row}
 
 -- the last of the rows has the key
 abbrev pub EndWith : List Row → List ℕ → Type 0

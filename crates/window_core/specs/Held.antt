@@ -9,8 +9,8 @@ use Rattle.std.specs.List.{AllByRecursion-prop}
 use Rattle.std.proofs.Props.{props}
 use Rattle.fed_bytes.specs.declared.span.Span.{Span}
 use Rattle.fed_bytes.specs.Keys.{IsBefore, IsBeforeEnd}
-use Rattle.window_core.specs.declared.rows.Row.{Row}
-use Rattle.window_core.specs.Rows.{ComesBefore, StandInOrder, IsWithin, AreWithin}
+use Rattle.row_core.specs.declared.rows.Row.{Row}
+use Rattle.row_core.specs.Rows.{ComesBefore, StandInOrder, IsWithin, AreWithin}
 use Rattle.window_core.specs.Runs.{all_of, AreOlder, RunsRise, AreRuns}
 
 IsBeforeEnd-prop : (key : List ℕ) (right : Option (List ℕ)) → IsProp (IsBeforeEnd key right)

@@ -3,6 +3,5 @@ pub mod Gathering
 pub mod Held
 pub mod Laws
 pub mod Packed
-pub mod Rows
 pub mod Runs
 pub mod Windows

@@ -1,8 +1,8 @@
 -- Private: rows in flat buffers.
 use Rattle.std.specs.Prelude.{ℕ, ◌+◌, ◌≤◌, List, [], length, map, get_or, slice_range, Option, Some, None}
-use Rattle.window_core.specs.declared.rows.Row.{Row}
-use Rattle.window_core.specs.declared.rows.Cell.{Cell}
-use Rattle.window_core.specs.declared.rows.Cell.TheVariants.{Value, Deleted}
+use Rattle.row_core.specs.declared.rows.Row.{Row}
+use Rattle.row_core.specs.declared.rows.Cell.{Cell}
+use Rattle.row_core.specs.declared.rows.Cell.TheVariants.{Value, Deleted}
 use Rattle.window_core.specs.declared.packed.Spot.{Spot}
 
 abbrev pub row_with : List ℕ → ℕ → Cell → Row

@@ -7,13 +7,9 @@ use Rattle.std.specs.Cmp.Lexicographic.{slice_cmp}
 use Rattle.base_core.specs.Lists.{Has}
 use Rattle.fed_bytes.specs.declared.span.Span.{Span}
 use Rattle.fed_bytes.specs.Keys.{IsBefore, IsUpTo, IsIn}
-use Rattle.window_core.specs.declared.rows.Row.{Row}
+use Rattle.row_core.specs.declared.rows.Row.{Row}
 use Rattle.window_core.specs.Packed.{row_at}
-use Rattle.window_core.specs.Rows.{ComesBefore, StandInOrder, IsLast}
-
--- rows stand by key, and within a key the latest first
-abbrev pub row_cmp : Row → Row → Ordering
-row_cmp one other = ordering_then (slice_cmp nat_cmp one.key other.key) (nat_cmp other.time one.time)
+use Rattle.row_core.specs.Rows.{ComesBefore, StandInOrder, IsLast, row_cmp}
 
 -- a row among rows in order, if none stands at its place
 abbrev pub put_in : Row → List Row → List Row

@@ -5,17 +5,11 @@ use Rattle.fed_bytes.specs.declared.span.Span.{Span}
 use Rattle.fed_bytes.specs.Keys.{IsBefore, IsUpTo, IsBeforeEnd, IsIn}
 use Rattle.base_core.specs.Lists.{Has}
 use Rattle.base_core.specs.Faults.{HasRisen}
-use Rattle.window_core.specs.declared.rows.Row.{Row}
-use Rattle.window_core.specs.declared.rows.Chunk.{Chunk}
+use Rattle.row_core.specs.declared.rows.Row.{Row}
+use Rattle.row_core.specs.declared.rows.Chunk.{Chunk}
 use Rattle.window_core.specs.declared.fault.WindowFault.{WindowFault}
 use Rattle.window_core.specs.declared.fault.WindowFault.TheVariants.{NoMemory, Failed, Damaged, BadRows}
-use Rattle.window_core.specs.Rows.{StandInOrder, AreWithin, IsWithin, IsAt, Rise}
-
--- the rows of a window stand in order, and are within its span and its times
-pub record IsWindow (span : Span) (from upto : ℕ) (rows : List Row) : Type 0 where
-  pub in_order : StandInOrder rows
-  pub within : AreWithin span from upto rows
-  pub times : from ≤ upto
+use Rattle.row_core.specs.Rows.{StandInOrder, AreWithin, IsWithin, IsAt, Rise}
 
 -- the count of faults doesn't fall, and a fault of the device is answered only where it has risen
 pub record IsCountedBy {T : Type 0} (before now : ℕ) (result : Result T WindowFault) : Type 0 where

@@ -4,9 +4,9 @@ ghost use Rattle.window_core.specs.Windows.{IsCountedBy, IsNoDamage, IsCause};
 ghost use Rattle.window_core.specs.Caller.{IsFirstAt};
 
 use crate::fault::WindowFault;
-use crate::rows::Row;
 use crate::window::Window;
 use disk_core::Disk;
+use row_core::Row;
 use std::alloc::Global;
 
 /// The newest row, at or before a time, of the first key from a key on.

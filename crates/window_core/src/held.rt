@@ -1,15 +1,15 @@
 //! What a window in memory holds: runs of rows, and the bounds of what may stand in them.
 ghost use Rattle.std.specs.Prelude.{◌≡◌, ◌↔◌, ◌+◌, ◌≤◌, [], IsTrue, IfOk, OnOk, OnErr};
 ghost use Rattle.window_core.specs.Held.{AreWithin-prop, StandInOrder-prop, AreRuns-prop};
-ghost use Rattle.window_core.specs.Rows.{StandInOrder, AreWithin, AreChanges, AreExtended};
+ghost use Rattle.row_core.specs.Rows.{StandInOrder, AreWithin, AreChanges, AreExtended};
 ghost use Rattle.window_core.specs.Runs.{AreRuns, merged};
 
 use crate::packed::Packed;
-use crate::rows::{Chunk, Row, Rows};
 use crate::run::taken;
 use crate::runs::{are_empty, chunk, last, put_run};
 use base_core::Want;
 use fed_bytes::Span;
+use row_core::{Chunk, Row, Rows};
 use std::alloc::Global;
 
 #[derive(Drop)]
@@ -26,7 +26,7 @@ pub(crate) struct Held {
 }
 
 impl Held {
-    ghost use Rattle.window_core.specs.Rows.{IsLast, IsChunk};
+    ghost use Rattle.row_core.specs.Rows.{IsLast, IsChunk};
     ghost use Rattle.window_core.specs.Windows.{IsFound, IsPart, IsPassage};
 
     /// Adds the rows whose keys are in the span, and moves `upto` to their time. After an `Err` all is as it was.

@@ -1,17 +1,17 @@
 //! A window in memory that is being filled.
 ghost use Rattle.std.specs.Prelude.{◌≡◌, ◌↔◌, ◌+◌, ◌≤◌, [], IsTrue, IfOk, IfErr, OnOk, OnErr};
 ghost use Rattle.window_core.specs.declared.fault.WindowFault.TheVariants.{NoMemory};
-ghost use Rattle.window_core.specs.Rows.{IsLast, IsChunk, AreChanges, AreExtended};
+ghost use Rattle.row_core.specs.Rows.{IsLast, IsChunk, AreChanges, AreExtended};
 ghost use Rattle.window_core.specs.Windows.{IsFound, IsPart, IsPassage};
 
 use crate::fault::WindowFault;
 use crate::frozen::FrozenWindow;
 use crate::held::Held;
-use crate::rows::{Chunk, Row, Rows};
 use crate::window::Window;
 use base_core::Want;
 use disk_core::Disk;
 use fed_bytes::Span;
+use row_core::{Chunk, Row, Rows};
 use std::alloc::Global;
 use std::sync::Arc;
 

@@ -1,11 +1,11 @@
 //! Rows in two flat buffers, in place of a key and a value on the heap for each row.
 ghost use Rattle.std.specs.Prelude.{◌≡◌, ◌<◌, ◌++◌, ◌∷◌, [], length, IfOk, OnOk, OnErr, MatchOption};
-ghost use Rattle.window_core.specs.declared.rows.Cell.TheVariants.{Value, Deleted};
+ghost use Rattle.row_core.specs.declared.rows.Cell.TheVariants.{Value, Deleted};
 ghost use Rattle.window_core.specs.Packed.{row_with, row_at};
 
-use crate::rows::{Cell, Row};
 use base_core::Want;
 use fed_bytes::Key;
+use row_core::{Cell, Row};
 use std::alloc::Global;
 use std::marker::Model;
 
@@ -29,7 +29,7 @@ pub(crate) struct Packed {
 impl Model for Packed {
     ghost use Rattle.std.specs.Prelude.{List};
     ghost use Rattle.std.specs.List.{AllByRecursion};
-    ghost use Rattle.window_core.specs.declared.rows.Row.{Row};
+    ghost use Rattle.row_core.specs.declared.rows.Row.{Row};
     ghost use Rattle.window_core.specs.Packed.{rows_in, IsStored};
 
     ghost Value = { List Row };

@@ -1,13 +1,13 @@
 //! A run: rows in order, in flat buffers.
 ghost use Rattle.std.specs.Prelude.{◌≡◌, ◌↔◌, ◌<◌, ◌⊎◌, IsTrue, IsFalse, length, IfOk, OnOk};
-ghost use Rattle.window_core.specs.Rows.{StandInOrder};
+ghost use Rattle.row_core.specs.Rows.{StandInOrder};
 ghost use Rattle.window_core.specs.Runs.{AreOlder, IsMerge, IsTaken, AreThoseIn, IsOlderNext, IsNewerNext, IsFirstFrom, IsFoundAt};
 
 use crate::compare::{is_before, is_same, reaches};
 use crate::packed::Packed;
-use crate::rows::Row;
 use base_core::Want;
 use fed_bytes::Span;
+use row_core::Row;
 use std::alloc::Global;
 
 /// A copy of these rows.

@@ -1,17 +1,17 @@
 //! Several runs. Each is of later times than those before it, so that of one key the rows of a later run are the newer.
 ghost use Rattle.std.specs.Prelude.{◌≡◌, ◌↔◌, ◌+◌, ◌<◌, ◌≤◌, ◌⊎◌, ◌++◌, ◌∷◌, [], List, IsTrue, length, take, drop, IfOk, OnOk, OnErr};
 ghost use Rattle.base_core.specs.Lists.{Has};
-ghost use Rattle.window_core.specs.declared.rows.Row.{Row as AnyRow};
+ghost use Rattle.row_core.specs.declared.rows.Row.{Row as AnyRow};
 ghost use Rattle.window_core.specs.Gathering.{IsLeftBy};
-ghost use Rattle.window_core.specs.Rows.{StandInOrder, IsLast, IsChunk};
+ghost use Rattle.row_core.specs.Rows.{StandInOrder, IsLast, IsChunk};
 ghost use Rattle.window_core.specs.Runs.{AreOlder, AreRuns, IsMerge, IsLeast, ArePassedTo, all_of, merged, run_at, number_at};
 
 use crate::compare::{is_before, is_same};
 use crate::packed::Packed;
-use crate::rows::{Chunk, Row, Rows};
 use crate::run::{first_from, merge, newest_at};
 use base_core::Want;
 use fed_bytes::Key;
+use row_core::{Chunk, Row, Rows};
 use std::alloc::Global;
 
 /// Puts a run of later times behind the others, and merges it with those that aren't far longer. So each run is at

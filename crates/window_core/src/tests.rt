@@ -1,5 +1,5 @@
 ghost use Rattle.std.specs.Prelude.{◌≡◌, IfOk, None};
-ghost use Rattle.window_core.specs.Rows.{AreChanges};
+ghost use Rattle.row_core.specs.Rows.{AreChanges};
 
 use super::*;
 use crate::caller::first_at;

@@ -3,14 +3,14 @@ ghost use Rattle.std.specs.Prelude.{◌≡◌, ℕ, ◌≤◌, List, Option, IfO
 ghost use Rattle.std.specs.List.{AllByRecursion};
 ghost use Rattle.fed_bytes.specs.declared.span.Span.{Span};
 ghost use Rattle.disk_core.specs.Moments.{Told};
-ghost use Rattle.window_core.specs.declared.rows.Row.{Row};
-ghost use Rattle.window_core.specs.Rows.{IsLast, IsChunk};
-ghost use Rattle.window_core.specs.Windows.{IsWindow, IsCountedBy, IsNoDamage, IsCause, IsFound, IsPart, IsPassage};
+ghost use Rattle.row_core.specs.declared.rows.Row.{Row};
+ghost use Rattle.row_core.specs.Rows.{IsLast, IsChunk, IsWindow};
+ghost use Rattle.window_core.specs.Windows.{IsCountedBy, IsNoDamage, IsCause, IsFound, IsPart, IsPassage};
 
 use crate::fault::WindowFault;
-use crate::rows::{Chunk, Row};
 use disk_core::Disk;
 use fed_bytes::Span;
+use row_core::{Chunk, Row};
 use std::alloc::Global;
 
 /// The rows of one index whose keys are in a span and whose times are above `from` and at most `upto`.

@@ -10,15 +10,15 @@ use Rattle.base_core.specs.Lists.{Has, AreDistinct}
 use Rattle.fed_bytes.specs.declared.span.Span.{Span}
 use Rattle.fed_bytes.specs.Keys.{IsBefore, IsUpTo, IsBeforeEnd, IsIn}
 use Rattle.fed_bytes.proofs.Orders.{no_answer, before_up_to}
-use Rattle.window_core.specs.declared.rows.Row.{Row}
-use Rattle.window_core.specs.declared.rows.Cell.{Cell}
-use Rattle.window_core.specs.declared.rows.Cell.TheVariants.{Value, Deleted}
-use Rattle.window_core.specs.declared.rows.Chunk.{Chunk}
-use Rattle.window_core.specs.Rows.{ComesBefore, StandInOrder, IsWithin, EndsAt, IsChunk}
+use Rattle.row_core.specs.declared.rows.Row.{Row}
+use Rattle.row_core.specs.declared.rows.Cell.{Cell}
+use Rattle.row_core.specs.declared.rows.Cell.TheVariants.{Value, Deleted}
+use Rattle.row_core.specs.declared.rows.Chunk.{Chunk}
+use Rattle.row_core.specs.Rows.{ComesBefore, StandInOrder, IsWithin, EndsAt, IsChunk}
 use Rattle.window_core.specs.Windows.{IsOnward, IsPart, ArePassed, IsPassage}
-use Rattle.window_core.proofs.Lists.{of_each, each, in_front, behind}
-use Rattle.window_core.proofs.Order.{before_is_up_to, not_before_itself, one_key, up_to_any_later}
-use Rattle.window_core.proofs.Filters.{kept, passes, filter_in_order}
+use Rattle.row_core.proofs.Lists.{of_each, each, in_front, behind}
+use Rattle.row_core.proofs.Order.{before_is_up_to, not_before_itself, one_key, up_to_any_later}
+use Rattle.row_core.proofs.Filters.{kept, passes, filter_in_order}
 use Rattle.window_merge.specs.Choosing.{is_before_end, is_in, is_asked_at, has_one_key, is_value_cell, is_value_row, values_of, IsKeyIn}
 use Rattle.window_merge.specs.Values.{IsValueCell, IsValueAt, IsPassed, IsKeyOf, AreMost, AreValuesAt, IsAskedFor, AreAskedFor}
 use Rattle.window_merge.proofs.Ends.{past_by}

@@ -5,12 +5,12 @@ use Rattle.base_core.specs.Lists.{Has}
 use Rattle.fed_bytes.specs.Keys.{IsBefore, IsUpTo}
 use Rattle.std.proofs.lemmas.List.{get_or_read}
 use Rattle.fed_bytes.proofs.Orders.{no_answer, before_up_to, up_to-itself}
-use Rattle.window_core.specs.declared.rows.Row.{Row}
-use Rattle.window_core.specs.declared.rows.Cell.TheVariants.{Deleted}
+use Rattle.row_core.specs.declared.rows.Row.{Row}
+use Rattle.row_core.specs.declared.rows.Cell.TheVariants.{Deleted}
 use Rattle.window_core.specs.Packed.{row_at, row_with}
-use Rattle.window_core.specs.Rows.{StandInOrder, AreKeysOf, HaveKeys}
-use Rattle.window_core.proofs.Lists.{in_front, behind, in_one}
-use Rattle.window_core.proofs.Order.{not_before_itself, up_to_is, up_to_later}
+use Rattle.row_core.specs.Rows.{StandInOrder, AreKeysOf, HaveKeys}
+use Rattle.row_core.proofs.Lists.{in_front, behind, in_one}
+use Rattle.row_core.proofs.Order.{not_before_itself, up_to_is, up_to_later}
 use Rattle.window_core.proofs.Merging.{take_at_row}
 use Rattle.window_merge.specs.Merging.{IsLeftAt, AreOfKeys}
 use Rattle.window_merge.specs.Values.{IsKeyOf}

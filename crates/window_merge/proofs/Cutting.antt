@@ -5,11 +5,11 @@ use Rattle.std.specs.List.{AllByRecursion}
 use Rattle.std.proofs.lemmas.List.{take-append-drop, take_all}
 use Rattle.base_core.specs.Lists.{Has}
 use Rattle.fed_bytes.specs.Keys.{IsBefore, IsBeforeEnd}
-use Rattle.window_core.specs.declared.rows.Row.{Row}
+use Rattle.row_core.specs.declared.rows.Row.{Row}
 use Rattle.window_core.specs.Packed.{row_at}
-use Rattle.window_core.specs.Rows.{ComesBefore, StandInOrder, HaveKeys, BeginWith}
-use Rattle.window_core.proofs.Lists.{of_each, each}
-use Rattle.window_core.proofs.Order.{front_in_order}
+use Rattle.row_core.specs.Rows.{ComesBefore, StandInOrder, HaveKeys, BeginWith}
+use Rattle.row_core.proofs.Lists.{of_each, each}
+use Rattle.row_core.proofs.Order.{front_in_order}
 use Rattle.window_core.proofs.Merging.{drop_at_row, has_dropped, has_at_index}
 use Rattle.window_merge.specs.Merging.{IsCut, AreOfKeys}
 use Rattle.window_merge.specs.Parting.{ArePartedAt}

@@ -8,11 +8,11 @@ use Rattle.std.proofs.lemmas.List.{take-append-drop, drop_all}
 use Rattle.base_core.specs.Lists.{Has}
 use Rattle.fed_bytes.specs.Keys.{IsBefore, IsUpTo, IsBeforeEnd}
 use Rattle.fed_bytes.proofs.Orders.{no_answer, turned, up_to-chain, up_to_before, before_up_to}
-use Rattle.window_core.specs.declared.rows.Row.{Row}
+use Rattle.row_core.specs.declared.rows.Row.{Row}
 use Rattle.window_core.specs.Packed.{row_at}
-use Rattle.window_core.specs.Rows.{ComesBefore, StandInOrder}
-use Rattle.window_core.proofs.Lists.{of_each, each, all_of_both}
-use Rattle.window_core.proofs.Order.{before_is_up_to, up_to_later, front_before}
+use Rattle.row_core.specs.Rows.{ComesBefore, StandInOrder}
+use Rattle.row_core.proofs.Lists.{of_each, each, all_of_both}
+use Rattle.row_core.proofs.Order.{before_is_up_to, up_to_later, front_before}
 use Rattle.window_core.proofs.Merging.{drop_at_row, take_at_row, drop_in_order}
 use Rattle.window_merge.specs.Merging.{IsEarlierEnd}
 use Rattle.window_merge.specs.Parting.{IsPast, ArePartedAt}

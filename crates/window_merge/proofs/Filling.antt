@@ -9,9 +9,9 @@ use Rattle.std.proofs.lemmas.Bool.{cases_lt}
 use Rattle.base_core.specs.Lists.{Has}
 use Rattle.fed_bytes.specs.Keys.{IsBefore}
 use Rattle.fed_bytes.proofs.Orders.{before_up_to}
-use Rattle.window_core.specs.Rows.{Rise}
-use Rattle.window_core.proofs.Lists.{of_each, each}
-use Rattle.window_core.proofs.Order.{before_is_up_to, one_key}
+use Rattle.row_core.specs.Rows.{Rise}
+use Rattle.row_core.proofs.Lists.{of_each, each}
+use Rattle.row_core.proofs.Order.{before_is_up_to, one_key}
 
 -- all of the keys, and as many of the others as it takes
 pub record IsFilled (keys others : List (List ℕ)) (most : ℕ) (filled : List (List ℕ)) : Type 0 where

@@ -8,15 +8,15 @@ use Rattle.base_core.specs.Lists.{Has, AreDistinct}
 use Rattle.fed_bytes.specs.declared.span.Span.{Span}
 use Rattle.fed_bytes.specs.Keys.{IsBefore, IsUpTo, IsBeforeEnd, IsIn}
 use Rattle.fed_bytes.proofs.Orders.{no_answer, before_up_to, up_to_before, up_to_end}
-use Rattle.window_core.specs.declared.rows.Row.{Row}
-use Rattle.window_core.specs.declared.rows.Chunk.{Chunk}
-use Rattle.window_core.specs.Rows.{ComesBefore, StandInOrder, IsWithin, AreFrom, HaveKeys, BeginWith, EndsAt, IsChunk}
+use Rattle.row_core.specs.declared.rows.Row.{Row}
+use Rattle.row_core.specs.declared.rows.Chunk.{Chunk}
+use Rattle.row_core.specs.Rows.{ComesBefore, StandInOrder, IsWithin, AreFrom, HaveKeys, BeginWith, EndsAt, IsChunk}
 use Rattle.window_core.specs.Runs.{IsMerge, AreRuns, all_of, merged}
 use Rattle.window_core.specs.Windows.{IsOnward, IsPart}
-use Rattle.window_core.proofs.Lists.{of_each, each, in_front, behind, in_one}
-use Rattle.window_core.proofs.Order.{before_is_up_to, not_before_itself, up_to_is, up_to_any_later, front_in_order, back_in_order, joined_in_order}
+use Rattle.row_core.proofs.Lists.{of_each, each, in_front, behind, in_one}
+use Rattle.row_core.proofs.Order.{before_is_up_to, not_before_itself, up_to_is, up_to_any_later, front_in_order, back_in_order, joined_in_order}
 use Rattle.window_core.proofs.Found.{next_follows}
-use Rattle.window_core.proofs.Filters.{kept, passes, filter_in_order}
+use Rattle.row_core.proofs.Filters.{kept, passes, filter_in_order}
 use Rattle.window_core.proofs.Arranging.{arranged_in_order, merged_has, are_older}
 use Rattle.window_merge.specs.Merging.{AreEarlier, IsCutAt, IsJoin}
 use Rattle.window_merge.specs.Parting.{IsPast}

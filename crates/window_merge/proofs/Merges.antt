@@ -7,11 +7,11 @@ use Rattle.std.proofs.lemmas.List.{append-nil}
 use Rattle.base_core.specs.Lists.{Has}
 use Rattle.fed_bytes.specs.Keys.{IsBefore, IsUpTo}
 use Rattle.fed_bytes.proofs.Orders.{no_answer, before_up_to, up_to-chain}
-use Rattle.window_core.specs.declared.rows.Row.{Row}
-use Rattle.window_core.specs.Rows.{ComesBefore, StandInOrder}
+use Rattle.row_core.specs.declared.rows.Row.{Row}
+use Rattle.row_core.specs.Rows.{ComesBefore, StandInOrder}
 use Rattle.window_core.specs.Runs.{IsMerge}
-use Rattle.window_core.proofs.Lists.{of_each, each}
-use Rattle.window_core.proofs.Order.{up_to_is, up_to_any_later}
+use Rattle.row_core.proofs.Lists.{of_each, each}
+use Rattle.row_core.proofs.Order.{up_to_is, up_to_any_later}
 use Rattle.window_core.proofs.Merging.{turned_merge}
 use Rattle.window_merge.specs.Merging.{AreEarlier, IsBeforeFirst, IsUpToFirst, IsNewerFirst, IsNextRow}
 use Rattle.window_merge.proofs.Ends.{past_by}

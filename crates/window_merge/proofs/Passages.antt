@@ -5,10 +5,10 @@ use Rattle.std.specs.List.{AllByRecursion}
 use Rattle.base_core.specs.Lists.{Has}
 use Rattle.fed_bytes.specs.declared.span.Span.{Span}
 use Rattle.fed_bytes.specs.Keys.{IsBefore, IsUpTo, IsBeforeEnd, IsIn}
-use Rattle.window_core.specs.declared.rows.Row.{Row}
-use Rattle.window_core.specs.declared.rows.Chunk.{Chunk}
+use Rattle.row_core.specs.declared.rows.Row.{Row}
+use Rattle.row_core.specs.declared.rows.Chunk.{Chunk}
 use Rattle.window_core.specs.Windows.{ArePassed, IsPassage}
-use Rattle.window_core.proofs.Lists.{of_each, each}
+use Rattle.row_core.proofs.Lists.{of_each, each}
 use Rattle.window_core.proofs.Passage.{RisingKeys, rising_keys, keys_count}
 use Rattle.window_merge.specs.Merging.{IsCutAt, IsJoin}
 use Rattle.window_merge.proofs.Filling.{some_filled}

@@ -6,13 +6,13 @@ use Rattle.std.proofs.lemmas.List.{append-nil, take-append-drop, take_more}
 use Rattle.base_core.specs.Lists.{Has}
 use Rattle.base_core.specs.Faults.{HasRisen}
 use Rattle.fed_bytes.specs.declared.span.Span.{Span}
-use Rattle.window_core.specs.declared.rows.Row.{Row}
-use Rattle.window_core.specs.declared.rows.Chunk.{Chunk}
-use Rattle.window_core.specs.Rows.{StandInOrder, IsWithin, HaveKeys, IsChunk}
+use Rattle.row_core.specs.declared.rows.Row.{Row}
+use Rattle.row_core.specs.declared.rows.Chunk.{Chunk}
+use Rattle.row_core.specs.Rows.{StandInOrder, IsWithin, HaveKeys, IsChunk, IsWindow}
 use Rattle.window_core.specs.declared.fault.WindowFault.{WindowFault}
 use Rattle.window_core.specs.declared.fault.WindowFault.TheVariants.{NoMemory, Failed, Damaged, BadRows}
-use Rattle.window_core.specs.Windows.{IsWindow, IsPart, IsPassage, IsCause, IsCountedBy}
-use Rattle.window_core.proofs.Lists.{of_each, each, in_one}
+use Rattle.window_core.specs.Windows.{IsPart, IsPassage, IsCause, IsCountedBy}
+use Rattle.row_core.proofs.Lists.{of_each, each, in_one}
 use Rattle.window_merge.specs.Merging.{AreEarlier, IsJoin}
 use Rattle.window_merge.specs.Together.{AreAdjacent, AreKeptByOne, IsOfOne, rows_of_all}
 use Rattle.window_merge.proofs.Joins.{row_of, join_order, part_join, chunk_join}

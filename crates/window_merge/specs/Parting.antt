@@ -2,7 +2,7 @@
 use Rattle.std.specs.Prelude.{ℕ, ◌≤◌, List, length, take, drop, Option, Some, None}
 use Rattle.std.specs.List.{AllByRecursion}
 use Rattle.fed_bytes.specs.Keys.{IsUpTo, IsBeforeEnd}
-use Rattle.window_core.specs.declared.rows.Row.{Row}
+use Rattle.row_core.specs.declared.rows.Row.{Row}
 
 -- the row stands at the end or behind it
 abbrev pub IsPast : Option (List ℕ) → Row → Type 0

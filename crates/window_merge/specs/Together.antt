@@ -3,8 +3,8 @@ use Rattle.std.specs.Prelude.{◌≡◌, ℕ, List, [], ◌∷◌, ◌++◌}
 use Rattle.std.specs.List.{AllByRecursion}
 use Rattle.base_core.specs.Lists.{Has}
 use Rattle.fed_bytes.specs.declared.span.Span.{Span}
-use Rattle.window_core.specs.declared.rows.Row.{Row}
-use Rattle.window_core.specs.Rows.{IsWithin}
+use Rattle.row_core.specs.declared.rows.Row.{Row}
+use Rattle.row_core.specs.Rows.{IsWithin}
 
 -- Windows over one span and between two times, the oldest first: each begins where the one before it ends. What a window's span and times
 -- are is told by the first three.

@@ -8,8 +8,9 @@ ghost use Rattle.window_merge.specs.Values.{IsValueAt};
 use crate::values_at;
 use disk_core::Disk;
 use fed_bytes::Span;
+use row_core::Row;
 use std::alloc::Global;
-use window_core::{Row, Window, WindowFault};
+use window_core::{Window, WindowFault};
 
 /// The value of the first key in a span that has one at a time, if one of its first `most` keys has.
 pub fn first_value<W: Window, D: Disk>(

@@ -2,7 +2,7 @@
 ghost use Rattle.std.specs.Prelude.{◌≡◌, ℕ, ◌≤◌, IfOk, IfErr};
 ghost use Rattle.std.specs.List.{AllByRecursion};
 ghost use Rattle.fed_bytes.specs.declared.span.Span.{Span as AnySpan};
-ghost use Rattle.window_core.specs.Rows.{IsChunk, StandInOrder};
+ghost use Rattle.row_core.specs.Rows.{IsChunk, StandInOrder};
 ghost use Rattle.window_core.specs.Windows.{IsCountedBy, IsNoDamage, IsCause, IsPart, IsPassage};
 ghost use Rattle.window_merge.specs.Merging.{AreEarlier, IsJoin};
 ghost use Rattle.window_merge.specs.Together.{AreAdjacent, AreKeptByOne, IsOfOne, rows_of_all};
@@ -11,8 +11,9 @@ use crate::cut::{cut, earlier_end};
 use crate::merge::merge;
 use base_core::Want;
 use disk_core::Disk;
+use row_core::{Chunk, Rows};
 use std::alloc::Global;
-use window_core::{Chunk, Rows, Window, WindowFault};
+use window_core::{Window, WindowFault};
 
 /// All rows that the windows have of the first `most` keys from a key on, and the key behind them. Of one key the rows of
 /// newer windows stand first. Each window is read once.

@@ -1,7 +1,7 @@
 //! Rows cut off behind so many keys.
 ghost use Rattle.std.specs.Prelude.{◌≡◌, ◌<◌, ◌≤◌, length, take, IsTrue, IsFalse, IfOk, Some};
 ghost use Rattle.window_core.specs.Packed.{row_at};
-ghost use Rattle.window_core.specs.Rows.{StandInOrder};
+ghost use Rattle.row_core.specs.Rows.{StandInOrder};
 ghost use Rattle.window_merge.specs.Merging.{IsCut, IsEarlierEnd, AreOfKeys, IsLeftAt};
 ghost use Rattle.window_merge.specs.Parting.{ArePartedAt};
 ghost use Rattle.window_merge.specs.Values.{IsKeyOf};
@@ -9,8 +9,8 @@ ghost use Rattle.window_merge.specs.Values.{IsKeyOf};
 use crate::compare::{is_before, is_same, is_up_to};
 use base_core::Want;
 use fed_bytes::Key;
+use row_core::{Chunk, Row, Rows};
 use std::alloc::Global;
-use window_core::{Chunk, Row, Rows};
 
 /// The rows of the first `most` keys before the end, and the key behind them: the next one, or the end.
 pub(crate) fn cut(alloc: Global, rows: Vec<Row>, end: Option<Key>, most: u32) -> Result<Chunk, Want>

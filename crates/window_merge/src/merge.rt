@@ -1,14 +1,14 @@
 //! Two lists of rows in order made one.
 ghost use Rattle.std.specs.Prelude.{IsTrue, IsFalse, IfOk};
-ghost use Rattle.window_core.specs.Rows.{StandInOrder};
+ghost use Rattle.row_core.specs.Rows.{StandInOrder};
 ghost use Rattle.window_core.specs.Runs.{IsMerge};
 ghost use Rattle.window_merge.specs.Merging.{AreEarlier, IsNextRow, IsOlderFirst, IsNewerFirst};
 
 use crate::compare::is_before;
 use base_core::Want;
+use row_core::Row;
 use std::alloc::Global;
 use std::collections::VecDeque;
-use window_core::Row;
 
 /// The rows of both. Of one key those of the newer list stand first.
 pub(crate) fn merge(alloc: Global, older: Vec<Row>, newer: Vec<Row>) -> Result<Vec<Row>, Want>

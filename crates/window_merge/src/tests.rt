@@ -1,5 +1,5 @@
 ghost use Rattle.std.specs.Prelude.{◌≡◌, ◌+◌, ◌≤◌, [], IfOk, None};
-ghost use Rattle.window_core.specs.Rows.{AreChanges};
+ghost use Rattle.row_core.specs.Rows.{AreChanges};
 ghost use Rattle.window_merge.specs.Together.{AreAdjacent};
 
 use super::*;
@@ -7,9 +7,10 @@ use crate::caller::first_value;
 use base_core::Want;
 use disk_core::NoDisk;
 use fed_bytes::{Key, Span};
+use row_core::{Cell, Chunk, Row, Rows};
 use std::alloc::Global;
 use std::test::Fail;
-use window_core::{Cell, Chunk, LiveWindow, Row, Rows, Window, WindowFault};
+use window_core::{LiveWindow, Window, WindowFault};
 
 fn all(alloc: Global) -> Result<Span, Want>
     ensures { IfOk result (λ made. made ≡ record { left = []; right = None }) }

@@ -10,8 +10,9 @@ ghost use Rattle.window_merge.specs.Values.{AreValuesAt, AreAskedFor};
 use crate::chunk::merged_chunk;
 use disk_core::Disk;
 use fed_bytes::{Key, Span};
+use row_core::{Cell, Chunk, Row, Rows};
 use std::alloc::Global;
-use window_core::{Cell, Chunk, Row, Rows, Window, WindowFault};
+use window_core::{Window, WindowFault};
 
 /// Of the first `most` keys in a span, the newest row at or before a time where it is a value, and the key behind them.
 pub fn values_at<W: Window, D: Disk>(

@@ -1,5 +1,5 @@
 use Rattle.std.proofs.Common.{◌≡◌, List, arith, ◌∙◌, subst}
-use Rattle.window_core.specs.declared.rows.Row.{Row}
+use Rattle.row_core.specs.declared.rows.Row.{Row}
 use Rattle.bigfed.specs.Shown.{IsKept, firsts}
 use Rattle.bigfed.proofs.Collected.{Collected, nothing_yet, turned_one, all_done, kept_all, kept_new}
 use Rattle.bigfed.proofs.shown.keep_shown.Goals as goal

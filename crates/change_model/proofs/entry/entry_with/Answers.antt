@@ -3,7 +3,7 @@ use Rattle.std.specs.List.{filter_map}
 use Rattle.triple_keys.specs.declared.order.Order.TheVariants.{Spo, Pos, Osp}
 use Rattle.change_model.specs.EntryRows.{id_row}
 use Rattle.change_model.specs.Numbering.{ids_at}
-use Rattle.window_core.specs.Rows.{AreChanges}
+use Rattle.row_core.specs.Rows.{AreChanges}
 use Rattle.change_model.proofs.EntryLast.{last_entry}
 use Rattle.change_model.proofs.EntryChanges.{ids_change, statements_change}
 use Rattle.change_model.proofs.entry.entry_with.Goals as goal

@@ -1,7 +1,7 @@
 use Rattle.std.proofs.Common.{◌≡◌, ℕ, List, [], ◌∷◌, sym, ap, ◌∙◌, subst}
 use Rattle.base_core.specs.Lists.{Has}
 use Rattle.place_board.specs.Tokens.{Listing}
-use Rattle.window_core.specs.declared.rows.Index.{Index}
+use Rattle.row_core.specs.declared.rows.Index.{Index}
 use Rattle.place_core.specs.declared.shards.Line.{Line}
 use Rattle.place_core.specs.declared.shards.Born.{Born}
 use Rattle.place_core.specs.declared.shards.Locator.{Locator}

@@ -4,7 +4,7 @@ use Rattle.std.proofs.lemmas.List.{take_all}
 use Rattle.std.proofs.lemmas.Result.{err_from_is_err_and}
 use Rattle.disk_core.specs.Moments.{Told}
 use Rattle.window_core.specs.Windows.{IsCause, IsCountedBy}
-use Rattle.window_core.proofs.Lists.{of_each}
+use Rattle.row_core.proofs.Lists.{of_each}
 use Rattle.window_merge.proofs.Stepping.{Kind, IsReadOf, IsReadOfAll, read_none, read_earlier, read_more, has_at, taken_more, adjacent_taken, counted_after, cause_of_one, ok_is_no_err}
 use Rattle.window_merge.proofs.chunk.merged_chunk.Given.{Over}
 use Rattle.window_merge.proofs.chunk.merged_chunk.Goals as goal

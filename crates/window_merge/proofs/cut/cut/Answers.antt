@@ -1,6 +1,6 @@
 use Rattle.std.proofs.Common.{◌<◌, length, sym, ap, ◌∙◌, subst, arith}
-use Rattle.window_core.specs.declared.rows.Row.{Row}
-use Rattle.window_core.specs.Rows.{StandInOrder}
+use Rattle.row_core.specs.declared.rows.Row.{Row}
+use Rattle.row_core.specs.Rows.{StandInOrder}
 use Rattle.window_merge.specs.Merging.{IsCut, AreOfKeys}
 use Rattle.window_merge.specs.Parting.{ArePartedAt}
 use Rattle.window_merge.proofs.Counting.{key_read}

@@ -1,5 +1,5 @@
 use Rattle.std.proofs.Common.{ap, ◌∙◌, subst}
-use Rattle.window_core.specs.Rows.{IsChunk, IsWithin}
+use Rattle.row_core.specs.Rows.{IsChunk, IsWithin}
 use Rattle.window_core.specs.Windows.{IsPart, IsPassage}
 use Rattle.window_merge.specs.Choosing.{values_of}
 use Rattle.window_merge.specs.Together.{IsOfOne, rows_of_all}

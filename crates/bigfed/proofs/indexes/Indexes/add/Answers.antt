@@ -1,4 +1,4 @@
-use Rattle.window_core.specs.declared.rows.Index.TheVariants.{T2i, I2t, Spo, Pos, Osp}
+use Rattle.row_core.specs.declared.rows.Index.TheVariants.{T2i, I2t, Spo, Pos, Osp}
 use Rattle.bigfed.proofs.Growth.{index_grows}
 use Rattle.bigfed.proofs.indexes.Indexes.add.Goals as goal
 

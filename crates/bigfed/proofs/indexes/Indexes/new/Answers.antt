@@ -1,5 +1,5 @@
 use Rattle.std.proofs.Common.{refl}
-use Rattle.window_core.specs.declared.rows.Index.TheVariants.{T2i, I2t, Spo, Pos, Osp}
+use Rattle.row_core.specs.declared.rows.Index.TheVariants.{T2i, I2t, Spo, Pos, Osp}
 use Rattle.bigfed.proofs.Growth.{empty_is_writable}
 use Rattle.bigfed.proofs.indexes.Indexes.new.Goals as goal
 

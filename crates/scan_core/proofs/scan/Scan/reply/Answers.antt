@@ -1,6 +1,6 @@
 use Rattle.std.proofs.Common.{◌≡◌, ◌++◌, ◌∙◌, List, Bool, Option, false, refl, sym, ap, subst, rules}
 use Rattle.fed_bytes.specs.declared.span.Span.{Span}
-use Rattle.window_core.specs.declared.rows.Row.{Row}
+use Rattle.row_core.specs.declared.rows.Row.{Row}
 use Rattle.scan_core.specs.Scans.{Scanning, IsScan, IsFitting, Takes}
 use Rattle.scan_core.proofs.Taking.{keeps, takes, with_part}
 use Rattle.scan_core.proofs.scan.Scan.reply.Goals as goal

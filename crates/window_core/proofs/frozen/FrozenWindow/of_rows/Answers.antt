@@ -1,6 +1,6 @@
 use Rattle.std.proofs.Common.{◌∷◌, [], List, sym, ap, subst, ◌∙◌}
-use Rattle.window_core.specs.declared.rows.Row.{Row}
-use Rattle.window_core.specs.Rows.{AreWithin}
+use Rattle.row_core.specs.declared.rows.Row.{Row}
+use Rattle.row_core.specs.Rows.{AreWithin}
 use Rattle.window_core.specs.Runs.{all_of, merged, AreRuns}
 use Rattle.window_core.proofs.Arranging.{arranged_in_order}
 use Rattle.window_core.proofs.Holding.{one_run, one_merged}

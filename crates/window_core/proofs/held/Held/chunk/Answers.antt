@@ -1,7 +1,7 @@
 use Rattle.std.proofs.Common.{subst}
 use Rattle.std.proofs.lemmas.Result.{IfOk-weaker}
 use Rattle.base_core.specs.Lists.{Has}
-use Rattle.window_core.specs.Rows.{IsChunk}
+use Rattle.row_core.specs.Rows.{IsChunk}
 use Rattle.window_core.specs.Runs.{all_of, merged}
 use Rattle.window_core.proofs.Found.{part_chunk}
 use Rattle.window_core.proofs.Holding.{none_later}

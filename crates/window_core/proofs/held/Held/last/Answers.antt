@@ -1,6 +1,6 @@
 use Rattle.std.proofs.Common.{subst}
 use Rattle.std.proofs.lemmas.Result.{IfOk-weaker}
-use Rattle.window_core.specs.Rows.{IsLast}
+use Rattle.row_core.specs.Rows.{IsLast}
 use Rattle.window_core.specs.Runs.{merged}
 use Rattle.window_core.proofs.Found.{found_last}
 use Rattle.window_core.proofs.held.Held.last.Goals as goal

@@ -1,5 +1,5 @@
 use Rattle.std.proofs.Common.{◌∷◌, [], ◌++◌, refl, ap, ◌∙◌}
-use Rattle.window_core.specs.declared.rows.Cell.TheVariants.{Deleted}
+use Rattle.row_core.specs.declared.rows.Cell.TheVariants.{Deleted}
 use Rattle.window_core.specs.Packed.{row_with}
 use Rattle.window_core.proofs.Packing.{on_err, kept_rows, more_rows, more_stored, deleted_stored, deleted_row}
 use Rattle.window_core.proofs.packed.Packed.push_deleted.Goals as goal

@@ -1,5 +1,5 @@
 use Rattle.std.proofs.Common.{◌∷◌, [], ◌++◌, Some, refl, ap, ◌∙◌, append_assoc}
-use Rattle.window_core.specs.declared.rows.Cell.TheVariants.{Value}
+use Rattle.row_core.specs.declared.rows.Cell.TheVariants.{Value}
 use Rattle.window_core.specs.Packed.{row_with}
 use Rattle.window_core.proofs.Packing.{on_err, kept_rows, kept_stored, more_rows, more_stored, value_stored, value_row}
 use Rattle.window_core.proofs.packed.Packed.push_value.Goals as goal

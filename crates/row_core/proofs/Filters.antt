@@ -3,9 +3,9 @@ use Rattle.std.proofs.Common.{◌≡◌, List, [], ◌∷◌, Bool, true, false,
 use Rattle.std.specs.List.{filter, AllByRecursion}
 use Rattle.base_core.specs.Lists.{Has}
 use Rattle.fed_bytes.proofs.Orders.{no_answer}
-use Rattle.window_core.specs.declared.rows.Row.{Row}
-use Rattle.window_core.specs.Rows.{ComesBefore, StandInOrder}
-use Rattle.window_core.proofs.Lists.{of_each, each}
+use Rattle.row_core.specs.declared.rows.Row.{Row}
+use Rattle.row_core.specs.Rows.{ComesBefore, StandInOrder}
+use Rattle.row_core.proofs.Lists.{of_each, each}
 
 kept_by : {A : Type 0} (test : A → Bool) (b : Bool) (x : A) (xs : List A) (y : A) → test x ≡ b → (Has xs y → Has (filter test xs) y)
     → Has (x ∷ xs) y → test y ≡ true → Has (cond b (x ∷ filter test xs) (filter test xs)) y

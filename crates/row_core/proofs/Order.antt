@@ -10,10 +10,9 @@ use Rattle.std.proofs.lemmas.Map.Lookups.{exact_bytes}
 use Rattle.base_core.specs.Lists.{Has}
 use Rattle.fed_bytes.specs.Keys.{IsBefore, IsUpTo}
 use Rattle.fed_bytes.proofs.Orders.{no_answer, up_to-itself, before_up_to}
-use Rattle.window_core.specs.declared.rows.Row.{Row}
-use Rattle.window_core.specs.Rows.{ComesBefore, StandInOrder}
-use Rattle.window_core.specs.Runs.{row_cmp}
-use Rattle.window_core.proofs.Lists.{of_each, each, all_of_both, in_front, behind}
+use Rattle.row_core.specs.declared.rows.Row.{Row}
+use Rattle.row_core.specs.Rows.{ComesBefore, StandInOrder, row_cmp}
+use Rattle.row_core.proofs.Lists.{of_each, each, all_of_both, in_front, behind}
 
 -- two keys that don't differ are one
 pub one_key : (a b : List ℕ) → slice_cmp nat_cmp a b ≡ Equal → a ≡ b

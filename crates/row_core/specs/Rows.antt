@@ -1,11 +1,14 @@
 -- Rows: how they stand, which are the newest, and what a chunk of them is.
 use Rattle.std.specs.Prelude.{◌≡◌, ◌≢◌, ℕ, ◌<◌, ◌≤◌, ◌↔◌, List, [], ◌∷◌, ◌++◌, length, Option, Some, None, ◌⊎◌}
 use Rattle.std.specs.List.{AllByRecursion}
+use Rattle.std.specs.declared.cmp.Ordering.{Ordering}
+use Rattle.std.specs.Ordering.{nat_cmp, ordering_then}
+use Rattle.std.specs.Cmp.Lexicographic.{slice_cmp}
 use Rattle.base_core.specs.Lists.{Has, AreDistinct}
 use Rattle.fed_bytes.specs.declared.span.Span.{Span}
 use Rattle.fed_bytes.specs.Keys.{IsBefore, IsUpTo, IsIn}
-use Rattle.window_core.specs.declared.rows.Row.{Row}
-use Rattle.window_core.specs.declared.rows.Chunk.{Chunk}
+use Rattle.row_core.specs.declared.rows.Row.{Row}
+use Rattle.row_core.specs.declared.rows.Chunk.{Chunk}
 
 -- one row comes before another: its key does, or the keys are one and its time is above the other's
 abbrev pub ComesBefore : Row → Row → Type 0
@@ -80,3 +83,13 @@ pub record AreChanges (time : ℕ) (rows : List Row) : Type 0 where
 abbrev pub Rise : List (List ℕ) → Type 0
 Rise [] = Unit {0}
 Rise (key ∷ keys) = AllByRecursion (IsBefore key) keys × Rise keys
+
+-- the rows of a window stand in order, and are within its span and its times
+pub record IsWindow (span : Span) (from upto : ℕ) (rows : List Row) : Type 0 where
+  pub in_order : StandInOrder rows
+  pub within : AreWithin span from upto rows
+  pub times : from ≤ upto
+
+-- rows stand by key, and within a key the latest first
+abbrev pub row_cmp : Row → Row → Ordering
+row_cmp one other = ordering_then (slice_cmp nat_cmp one.key other.key) (nat_cmp other.time one.time)

@@ -67,7 +67,7 @@ pub struct Rows {
 
 impl Model for Rows {
     ghost use Rattle.std.specs.Prelude.{List};
-    ghost use Rattle.window_core.specs.declared.rows.Row.{Row};
+    ghost use Rattle.row_core.specs.declared.rows.Row.{Row};
 
     ghost Value = { List Row };
 
