@@ -61,7 +61,7 @@ next_up : (first last : ℕ) (terms : List NewTerm) → AreNextTo first terms la
 next_up first last [] are = let same = are.0 in omega arith
 next_up first last (term ∷ terms) are = let up = next_up (suc first) last terms are.1 in omega arith
 
-next_fits : (first last : ℕ) (terms : List NewTerm) → AreNextTo first terms last → last < 2 ^ 64
+pub next_fits : (first last : ℕ) (terms : List NewTerm) → AreNextTo first terms last → last < 2 ^ 64
 next_fits first last [] are = are.1
 next_fits first last (term ∷ terms) are = next_fits (suc first) last terms are.1
 

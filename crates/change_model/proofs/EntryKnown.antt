@@ -1,6 +1,6 @@
 -- The entries after a time tell the ids that terms got since.
-use Rattle.std.proofs.Common.{◌≡◌, ℕ, suc, ◌+◌, ◌<◌, ◌≤◌, ◌^◌, List, [], ◌∷◌, ◌++◌, length, take, drop, Option, Some, inl, inr, ◌↔◌, refl, sym, ◌∙◌, ap, subst, arith}
-use Rattle.std.specs.List.{slice_get, AllByRecursion}
+use Rattle.std.proofs.Common.{◌≡◌, ℕ, suc, ◌+◌, ◌<◌, ◌≤◌, ◌^◌, List, [], ◌∷◌, ◌++◌, length, take, drop, Option, inl, inr, ◌↔◌, refl, sym, ◌∙◌, ap, subst, arith}
+use Rattle.std.specs.List.{AllByRecursion}
 use Rattle.std.proofs.lemmas.Bool.{cases_lt}
 use Rattle.std.proofs.lemmas.List.{take-append-drop, length-take-le}
 use Rattle.base_core.specs.Lists.{Has, AreDistinct}
@@ -8,7 +8,7 @@ use Rattle.base_core.specs.Numbers.{number_bytes}
 use Rattle.term_core.specs.declared.term.Term.{Term}
 use Rattle.term_core.specs.declared.statement.Statement.{Statement}
 use Rattle.term_core.specs.Spelling.{spelling}
-use Rattle.term_core.specs.Term.{IsTerm, IsStatement}
+use Rattle.term_core.specs.Term.{IsTerm}
 use Rattle.triple_keys.proofs.Spelling.{number_told}
 use Rattle.row_core.specs.declared.rows.Row.{Row}
 use Rattle.row_core.specs.declared.rows.Cell.TheVariants.{Value}
@@ -21,14 +21,14 @@ use Rattle.change_model.specs.declared.history.Origin.{Origin}
 use Rattle.change_model.specs.declared.vocabulary.Vocabulary.{Vocabulary}
 use Rattle.change_model.specs.Entries.{AreEntriesBetween, AreEntriesAfter, IsEntryAt, IsVocabularyOf, IsResolved}
 use Rattle.change_model.specs.History.{History}
-use Rattle.change_model.specs.IndexRows.{AppearsAt, IsTermRow, IsRow}
+use Rattle.change_model.specs.IndexRows.{AppearsAt, IsTermRow}
 use Rattle.change_model.specs.Known.{GiveId, EntriesGiveId, IsNewSince, AreTold}
 use Rattle.change_model.specs.Laws.{IsWritable}
-use Rattle.change_model.specs.Lexicon.{with_terms, terms_of, lexicon_at, HasId}
+use Rattle.change_model.specs.Lexicon.{terms_of, lexicon_at}
 use Rattle.change_model.specs.Numbering.{AreIdsIn, AreIdsAt, AreSpelled, BindWell}
 use Rattle.change_model.proofs.EntriesGrow.{changes_of, counted_entries}
 use Rattle.change_model.proofs.EntryHistory.{all_from, no_later_node, ids_in, vocabulary-binds}
-use Rattle.change_model.proofs.Lexicons.{AreWith-all, lexicon_at-append, lexicon-grown, lexicon-longer, lexicon-terms, HasId-at_most, HasId-fits, AppearsAt-within, AppearsAt-by, IsWritable-front, IsWritable-at}
+use Rattle.change_model.proofs.Lexicons.{AreWith-all, lexicon_at-append, lexicon-grown, lexicon-longer, lexicon-terms, HasId-at_most, HasId-fits, AppearsAt-by, IsWritable-front, IsWritable-at}
 use Rattle.change_model.proofs.Members.{length-one_more, slice_get-last}
 use Rattle.change_model.proofs.Newest.{appeared}
 use Rattle.change_model.proofs.Rows.{IsRow-append}
@@ -162,19 +162,29 @@ last_binds history resolved origin is writable =
     vocabulary-binds (suc n) resolved.change.statements resolved.vocabulary.terms low (IsWritable-at (history ++ (c ∷ [])) n c writable (slice_get-last history c)).1 is.terms
 
 -- what is known of the terms when the change is committed
+pub known_at : (history : History) (pinned : ℕ) (resolved : Resolved) (time : ℕ) (entries : List Entry) (known : List (Option ℕ))
+    → ((at : ℕ) (early base : List Term) → AreTold at early base entries → AreSpelled resolved.vocabulary → BindWell at resolved.vocabulary.terms → AreIdsIn early resolved.vocabulary.terms resolved.ids
+    → AreIdsAt at base resolved.vocabulary.terms known)
+    → IsResolved (take pinned history) resolved → AreEntriesAfter history pinned entries → IsWritable history → BindWell time resolved.vocabulary.terms
+    → time ≡ length history + 1 → AreIdsAt time (lexicon_at history (length history)) resolved.vocabulary.terms known
+known_at history pinned resolved time entries known tells is are writable binds at =
+    let n = length history in
+    let within : pinned ≤ n = let count = counted_entries history pinned n entries are in omega arith in
+    let next : suc n ≡ time = omega arith in
+    let ids : AreIdsIn (lexicon_at history pinned) resolved.vocabulary.terms resolved.ids =
+    subst (λ (ts : List Term). AreIdsIn ts resolved.vocabulary.terms resolved.ids) (pinned_is history pinned within) (ids_in (take pinned history) resolved.vocabulary.terms resolved.ids is.ids) in
+    tells time (lexicon_at history pinned) (lexicon_at history n)
+    (subst (λ (t : ℕ). AreTold t (lexicon_at history pinned) (lexicon_at history n) entries) next (told_after history pinned entries writable are within))
+    (spelled_of resolved.change.statements resolved.vocabulary is.vocabulary) binds ids
+
+-- the same by what is known of the history with the change
 pub known_at_last : (history : History) (pinned : ℕ) (resolved : Resolved) (origin : Origin) (time : ℕ) (entries : List Entry) (known : List (Option ℕ))
     → ((at : ℕ) (early base : List Term) → AreTold at early base entries → AreSpelled resolved.vocabulary → BindWell at resolved.vocabulary.terms → AreIdsIn early resolved.vocabulary.terms resolved.ids
     → AreIdsAt at base resolved.vocabulary.terms known)
     → IsResolved (take pinned history) resolved → AreEntriesAfter history pinned entries → IsWritable (history ++ (record { change = resolved.change; origin = origin } ∷ []))
     → time ≡ length history + 1 → AreIdsAt time (lexicon_at history (length history)) resolved.vocabulary.terms known
 known_at_last history pinned resolved origin time entries known tells is are writable at =
-    let n = length history in
-    let within : pinned ≤ n = let count = counted_entries history pinned n entries are in omega arith in
     let c : Committed = record { change = resolved.change; origin = origin } in
-    let front : IsWritable history = IsWritable-front history (c ∷ []) writable in
-    let next : time ≡ suc n = omega arith in
-    let ids : AreIdsIn (lexicon_at history pinned) resolved.vocabulary.terms resolved.ids =
-    subst (λ (ts : List Term). AreIdsIn ts resolved.vocabulary.terms resolved.ids) (pinned_is history pinned within) (ids_in (take pinned history) resolved.vocabulary.terms resolved.ids is.ids) in
-    subst (λ (t : ℕ). AreIdsAt t (lexicon_at history n) resolved.vocabulary.terms known) (sym next)
-    (tells (suc n) (lexicon_at history pinned) (lexicon_at history n) (told_after history pinned entries front are within)
-    (spelled_of resolved.change.statements resolved.vocabulary is.vocabulary) (last_binds history resolved origin is.vocabulary writable) ids)
+    let next : suc (length history) ≡ time = omega arith in
+    known_at history pinned resolved time entries known tells is are (IsWritable-front history (c ∷ []) writable)
+    (subst (λ (t : ℕ). BindWell t resolved.vocabulary.terms) next (last_binds history resolved origin is.vocabulary writable)) at

@@ -1,5 +1,5 @@
 -- The ids that entries give to terms.
-use Rattle.std.proofs.Common.{◌≡◌, ℕ, zero, suc, ◌+◌, ◌<◌, ◌≤◌, ◌^◌, true, false, List, [], ◌∷◌, ◌++◌, map, length, take, get_or, Option, Some, None, inl, inr, refl, sym, ◌∙◌, ap, subst, arith, MatchOption, IfSome}
+use Rattle.std.proofs.Common.{◌≡◌, ℕ, zero, suc, ◌+◌, ◌<◌, ◌≤◌, ◌^◌, true, List, [], ◌∷◌, ◌++◌, map, length, take, get_or, Option, Some, None, inl, inr, refl, sym, ◌∙◌, ap, subst, arith, MatchOption, IfSome}
 use Rattle.std.specs.declared.cmp.Ordering.{Ordering}
 use Rattle.std.specs.declared.cmp.Ordering.TheVariants.{Less, Equal, Greater}
 use Rattle.std.specs.Ordering.{nat_cmp, is_lt, is_le, ordering_index}
@@ -9,14 +9,13 @@ use Rattle.std.specs.List.Sorted.{IsNonDecreasingBy, IsPartitionPoint}
 use Rattle.std.proofs.lemmas.Bool.{false≢true, cases_lt}
 use Rattle.std.proofs.lemmas.Cmp.{tied_itself}
 use Rattle.std.proofs.lemmas.List.{take_more, take_all, map_more}
-use Rattle.std.proofs.lemmas.Option.{none-some, same_Some, slice_get_within}
+use Rattle.std.proofs.lemmas.Option.{same_Some, slice_get_within}
 use Rattle.std.proofs.lemmas.Slice.Zip.{all_zipped_more}
 use Rattle.base_core.specs.Lists.{Has}
 use Rattle.base_core.specs.Numbers.{number_bytes}
 use Rattle.fed_bytes.specs.Keys.{IsUpTo}
 use Rattle.fed_bytes.proofs.Orders.{up_to_before}
 use Rattle.term_core.specs.declared.term.Term.{Term}
-use Rattle.term_core.specs.declared.term.Term.TheVariants.{Blank}
 use Rattle.term_core.specs.Spelling.{spelling}
 use Rattle.term_core.specs.Term.{IsTerm}
 use Rattle.term_core.proofs.Spelling.{spelling_same}
@@ -25,10 +24,9 @@ use Rattle.row_core.specs.declared.rows.Cell.TheVariants.{Value}
 use Rattle.row_core.specs.Rows.{ComesBefore, StandInOrder, AreChanges}
 use Rattle.row_core.proofs.Order.{one_key, up_to_later, compared, not_before_tied}
 use Rattle.change_model.specs.declared.entry.Entry.{Entry}
-use Rattle.change_model.specs.declared.vocabulary.Vocabulary.{Vocabulary}
 use Rattle.change_model.specs.History.{bound_term}
 use Rattle.change_model.specs.Known.{GiveId, GiveNoId, HaveNotKey, EntriesGiveId, AreTold}
-use Rattle.change_model.specs.Numbering.{HasIdIn, IsIdIn, AreIdsIn, AreIdsAt, AreSpelled, BindWell}
+use Rattle.change_model.specs.Numbering.{HasIdIn, IsIdIn, AreIdsAt}
 use Rattle.change_model.proofs.Members.{slice_get-append, place_of, at_place, each_of, Has-map}
 use Rattle.change_model.proofs.EntryNumbering.{each_push}
 

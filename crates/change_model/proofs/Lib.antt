@@ -2,6 +2,7 @@ pub mod AdjacentWindows
 mod EntriesGrow
 mod EntryChanges
 mod EntryExact
+mod EntryFits
 mod EntryGiven
 mod EntryHistory
 mod EntryKnown
@@ -24,4 +25,5 @@ pub mod Terms
 pub mod UnprunedWindows
 mod VocabularyTerms
 pub mod WindowAnswers
+mod WindowEntries
 pub mod WindowSteps

@@ -9,6 +9,7 @@ use Rattle.row_core.specs.declared.rows.Index.TheVariants.{T2i, I2t, Spo, Pos, O
 use Rattle.row_core.specs.declared.rows.Row.{Row}
 use Rattle.row_core.specs.Rows.{StandInOrder, AreChanges}
 use Rattle.base_core.specs.Lists.{Has}
+use Rattle.fed_bytes.specs.declared.span.Span.{Span}
 use Rattle.change_model.specs.declared.history.Committed.{Committed}
 use Rattle.change_model.specs.declared.entry.Entry.{Entry}
 use Rattle.change_model.specs.declared.entry.Resolved.{Resolved}
@@ -17,6 +18,7 @@ use Rattle.change_model.specs.declared.vocabulary.Vocabulary.{Vocabulary}
 use Rattle.change_model.specs.History.{History}
 use Rattle.change_model.specs.Lexicon.{lexicon_at, HasId, with_terms, terms_of}
 use Rattle.change_model.specs.IndexRows.{IsRow}
+use Rattle.change_model.specs.WindowLaws.{AreGivenAt}
 
 -- the rows that the history gives to the index at this time, by key
 pub record AreRowsOf (index : Index) (history : History) (time : ℕ) (rows : List Row) : Type 0 where
@@ -41,6 +43,19 @@ pub record IsEntry (time : ℕ) (entry : Entry) : Type 0 where
   pub spo : AreChanges time entry.spo
   pub pos : AreChanges time entry.pos
   pub osp : AreChanges time entry.osp
+
+-- the entry's rows of an index
+abbrev pub rows_for : Index → Entry → List Row
+rows_for T2i entry = entry.t2i
+rows_for I2t entry = entry.i2t
+rows_for Spo entry = entry.spo
+rows_for Pos entry = entry.pos
+rows_for Osp entry = entry.osp
+
+-- the entries are of the times after this one, one of each
+abbrev pub AreTimed : ℕ → List Entry → Type 0
+AreTimed time [] = Unit {0}
+AreTimed time (entry ∷ entries) = IsEntry (suc time) entry × AreTimed (suc time) entries
 
 -- the entry has the rows of the history's change of this time
 pub record IsEntryAt (history : History) (time : ℕ) (entry : Entry) : Type 0 where
@@ -127,3 +142,9 @@ SomeEntriesLaw =
 abbrev pub CountedEntriesLaw : Type 0
 CountedEntriesLaw =
     (history : History) (from upto : ℕ) (entries : List Entry) → AreEntriesBetween history from upto entries → upto ≡ from + length entries
+
+-- The entry of a time has the rows that the history gives to an index at that time, within any span.
+abbrev pub GivenEntryLaw : Type 0
+GivenEntryLaw =
+    (index : Index) (history : History) (span : Span) (entry : Entry)
+    → IsEntryAt history entry.time entry → AreGivenAt index history span entry.time (rows_for index entry)

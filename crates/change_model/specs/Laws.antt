@@ -1,5 +1,5 @@
 -- What the rows of the five indexes say of the history that gave them.
-use Rattle.std.specs.Prelude.{◌≡◌, ◌↔◌, ℕ, ◌<◌, ◌≤◌, ◌^◌, List, length, Option, Some, None}
+use Rattle.std.specs.Prelude.{◌≡◌, ◌↔◌, ℕ, ◌<◌, ◌≤◌, ◌^◌, List, ◌++◌, length, Option, Some, None}
 use Rattle.std.specs.List.{AllByRecursion}
 use Rattle.term_core.specs.declared.term.Term.{Term}
 use Rattle.term_core.specs.declared.statement.Statement.{Statement}
@@ -72,3 +72,13 @@ IdLaw =
     (history : History) (time : ℕ) (term : Term) (id : ℕ)
     → IsWritable history → time ≤ length history → IsTerm term → id < 2 ^ 64
     → (HasId history time term id ↔ IsSpelled history time term id)
+
+-- Later changes leave the last row of a key up to a time as it was.
+abbrev pub LongerLastRowLaw : Type 0
+LongerLastRowLaw =
+    (index : Index) (history more : History) (key : List ℕ) (time : ℕ) (found : Option Row)
+    → time ≤ length history → (IsLastRow index (history ++ more) key time found ↔ IsLastRow index history key time found)
+
+-- The beginning of a history that a store may have is one too.
+abbrev pub WritableBeginningLaw : Type 0
+WritableBeginningLaw = (history more : History) → IsWritable (history ++ more) → IsWritable history

@@ -1,6 +1,8 @@
 //! The rows that a change gives to the five indexes.
 ghost use Rattle.std.specs.Prelude.{◌≡◌, ℕ, ◌+◌, ◌∷◌, ◌++◌, [], map, length, take, IfOk};
 ghost use Rattle.std.specs.Arc.{arc_value};
+ghost use Rattle.std.specs.List.{AllByRecursion};
+ghost use Rattle.term_core.specs.Term.{IsStatement};
 ghost use Rattle.change_model.specs.History.{History};
 ghost use Rattle.change_model.specs.Lexicon.{lexicon_at};
 ghost use Rattle.change_model.specs.Entries.{IsVocabularyOf, IsResolved, IsEntry, IsLastEntry, AreEntriesAfter};
@@ -57,6 +59,11 @@ pub fn entry_of(
         → IsWritable (history ++ record { change = resolved.now.change; origin = origin } ∷ [])
         → terms ≡ length (lexicon_at history (length history)) → time ≡ length history + 1
         → IfOk result (IsLastEntry (history ++ record { change = resolved.now.change; origin = origin } ∷ [])) }
+    ensures fits { (history : History) (pinned : ℕ) (origin : TheOrigin) → IsResolved (take pinned history) resolved.now
+        → AreEntriesAfter history pinned (map arc_value later.now)
+        → IsWritable history → AllByRecursion IsStatement resolved.now.change.statements
+        → terms ≡ length (lexicon_at history (length history)) → time ≡ length history + 1
+        → IfOk result (λ entry. IsWritable (history ++ record { change = resolved.now.change; origin = origin } ∷ [])) }
 {
     let known = known_ids(
         alloc,
@@ -81,6 +88,11 @@ fn entry_with(
         → IsWritable (history ++ record { change = resolved.now.change; origin = origin } ∷ [])
         → terms ≡ length (lexicon_at history (length history)) → time ≡ length history + 1
         → IfOk result (IsLastEntry (history ++ record { change = resolved.now.change; origin = origin } ∷ [])) }
+    ensures fits { (history : History) (origin : TheOrigin) → IsVocabularyOf resolved.now.change.statements resolved.now.vocabulary
+        → AreIdsAt time (lexicon_at history (length history)) resolved.now.vocabulary.terms known.items
+        → IsWritable history → AllByRecursion IsStatement resolved.now.change.statements
+        → terms ≡ length (lexicon_at history (length history)) → time ≡ length history + 1
+        → IfOk result (λ entry. IsWritable (history ++ record { change = resolved.now.change; origin = origin } ∷ [])) }
 {
     let kind = resolved.change.kind;
     let numbered = number_terms(alloc, resolved, known, terms, time)?;

@@ -1,5 +1,5 @@
 //! The entries of a history as it grows. These functions do nothing: each stands for its law, which holds of every history.
-ghost use Rattle.change_model.specs.Entries.{LastEntryLaw, LongerEntryLaw, LongerEntriesLaw, NextEntryLaw, GrownEntriesLaw, SomeEntriesLaw, CountedEntriesLaw};
+ghost use Rattle.change_model.specs.Entries.{LastEntryLaw, LongerEntryLaw, LongerEntriesLaw, NextEntryLaw, GrownEntriesLaw, SomeEntriesLaw, CountedEntriesLaw, GivenEntryLaw};
 
 /// The entry of a history's last change is the entry of its time, and its rows are of that time and by key.
 pub fn last_entry_law()
@@ -34,4 +34,9 @@ pub fn some_entries_law()
 /// There is one entry for each time.
 pub fn counted_entries_law()
     ensures { CountedEntriesLaw }
+{}
+
+/// The entry of a time has the rows that the history gives to an index at that time, within any span.
+pub fn given_entry_law()
+    ensures { GivenEntryLaw }
 {}

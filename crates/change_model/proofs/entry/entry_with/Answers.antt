@@ -4,6 +4,7 @@ use Rattle.triple_keys.specs.declared.order.Order.TheVariants.{Spo, Pos, Osp}
 use Rattle.change_model.specs.EntryRows.{id_row}
 use Rattle.change_model.specs.Numbering.{ids_at}
 use Rattle.row_core.specs.Rows.{AreChanges}
+use Rattle.change_model.proofs.EntryFits.{next_writable}
 use Rattle.change_model.proofs.EntryLast.{last_entry}
 use Rattle.change_model.proofs.EntryChanges.{ids_change, statements_change}
 use Rattle.change_model.proofs.entry.entry_with.Goals as goal
@@ -32,3 +33,8 @@ returns-clause-last c history origin is known writable count time =
       pos = c.in_ok-statements.ensures.pos;
       osp = c.in_ok-statements.ensures.osp;
     }) is known writable count time
+
+pub returns-clause-fits : goal.returns-clause-fits
+returns-clause-fits c history origin is known writable well count time =
+    next_writable history c.args.resolved.now c.args.known.items origin c.args.terms c.args.time _ c.in_ok-numbered.numbered.brought.items
+    c.in_ok-numbered.ensures.numbering c.in_ok-numbered.ensures.rising c.ranges.time.fits is known writable well count time

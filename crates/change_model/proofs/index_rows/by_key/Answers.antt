@@ -4,7 +4,7 @@ use Rattle.std.specs.Cmp.Lexicographic.{nat_list_cmp_total}
 use Rattle.std.proofs.lemmas.Fn.{dedup_same}
 use Rattle.std.proofs.lemmas.List.Sorted.{ranks_by, answers_always}
 use Rattle.row_core.specs.declared.rows.Row.{Row}
-use Rattle.change_model.proofs.EntryOrdered.{AreOneOfEach, by_key, one_key, each_order, each_kept, each_ordered}
+use Rattle.change_model.proofs.EntryOrdered.{by_key, one_key, each_order, each_kept, each_ordered}
 use Rattle.change_model.proofs.index_rows.by_key.Goals as goal
 
 pub returns-clause-order : goal.returns-clause-order
