@@ -1,5 +1,5 @@
 -- What keeps the history of a ledger sound.
-use Rattle.std.proofs.Common.{◌≡◌, ◌≢◌, ℕ, suc, ◌+◌, ◌≤◌, ◌==◌, if◌then◌else◌, List, [], ◌∷◌, ◌++◌, length, map, refl, sym, ap, ◌∙◌, subst, arith, length-append, append_assoc}
+use Rattle.std.proofs.Common.{◌≡◌, ◌≢◌, ℕ, zero, suc, ◌+◌, ◌-◌, ◌≤◌, ◌==◌, if◌then◌else◌, List, [], ◌∷◌, ◌++◌, length, map, take, drop, refl, sym, ap, ◌∙◌, subst, arith, length-append, append_assoc}
 use Rattle.std.specs.Prelude.{Contains, not, Option, Some, None}
 use Rattle.std.proofs.lemmas.Bool.{ne_eqb}
 use Rattle.std.proofs.lemmas.List.{map-append}
@@ -11,8 +11,8 @@ use Rattle.history_board.proofs.Members.{keeps_one, has_first}
 use Rattle.change_model.specs.declared.entry.Entry.{Entry}
 use Rattle.change_model.specs.declared.history.Committed.{Committed}
 use Rattle.change_model.specs.declared.history.Origin.{Origin}
-use Rattle.change_model.specs.Entries.{IsEntry}
-use Rattle.commit_core.specs.Rooms.{Waited, session_of, command_of, change_of, AreTimed, AreOriginsOf, MayComeIn, MayCome, IsSoundHistory, IsDecidedFor}
+use Rattle.change_model.specs.Entries.{IsEntry, AreTimed}
+use Rattle.commit_core.specs.Rooms.{Waited, session_of, command_of, change_of, AreOriginsOf, MayComeIn, MayCome, IsSoundHistory, IsDecidedFor}
 use Rattle.commit_core.specs.Ledgers.{IsReserved}
 
 -- ---- parts
@@ -20,6 +20,24 @@ use Rattle.commit_core.specs.Ledgers.{IsReserved}
 timed_push : (time last : ℕ) (entries : List Entry) (entry : Entry) → AreTimed time entries → last ≡ time + length entries → IsEntry (suc last) entry → AreTimed time (entries ++ entry ∷ [])
 timed_push time last [] entry are is last_is = (subst (λ n. IsEntry (suc n) entry) (omega (arith, is)) last_is, tt)
 timed_push time last (first ∷ entries) entry are is last_is = (are.0, timed_push (suc time) last entries entry are.1 (omega (arith, is)) last_is)
+
+-- so are those of a part of the times
+timed_taken : (time n : ℕ) (entries : List Entry) → AreTimed time entries → AreTimed time (take n entries)
+timed_taken time zero entries are = tt
+timed_taken time (suc n) [] are = tt
+timed_taken time (suc n) (entry ∷ entries) are = (are.0, timed_taken (suc time) n entries are.1)
+
+timed_dropped : (time n : ℕ) (entries : List Entry) → AreTimed time entries → AreTimed (time + n) (drop n entries)
+timed_dropped time zero entries are = let same : time ≡ time + 0 = omega arith in subst (λ (t : ℕ). AreTimed t entries) same are
+timed_dropped time (suc n) [] are = tt
+timed_dropped time (suc n) (entry ∷ entries) are =
+    let same : suc time + n ≡ time + suc n = omega arith in
+    subst (λ (t : ℕ). AreTimed t (drop n entries)) same (timed_dropped (suc time) n entries are.1)
+
+pub timed_range : (from upto : ℕ) (entries : List Entry) → AreTimed 0 entries → AreTimed from (take (upto - from) (drop from entries))
+timed_range from upto entries are =
+    let same : 0 + from ≡ from = omega arith in
+    timed_taken from (upto - from) (drop from entries) (subst (λ (t : ℕ). AreTimed t (drop from entries)) same (timed_dropped 0 from entries are))
 
 origins_push : (seen : List Committed) (origins : List Origin) (committed : Committed) → AreOriginsOf seen origins → AreOriginsOf (seen ++ committed ∷ []) (origins ++ committed.origin ∷ [])
 origins_push seen origins committed are = record {

@@ -6,6 +6,7 @@ use Rattle.change_model.specs.declared.entry.Entry.{Entry}
 use Rattle.change_model.specs.declared.history.Committed.{Committed}
 use Rattle.change_model.specs.History.{History}
 use Rattle.change_model.specs.Entries.{IsEntry, IsLastEntry}
+use Rattle.change_model.specs.Laws.{IsWritable}
 use Rattle.record_log.specs.Items.{with_one}
 use Rattle.record_log.specs.Logs.{IsFull}
 use Rattle.commit_core.specs.declared.fault.CommitFault.{CommitFault}
@@ -56,7 +57,12 @@ chosen true alone (Some behind) = behind
 chosen true alone None = alone
 chosen false alone behind = alone
 
+-- behind the history the change has the rows of the entry, and the history may be written with it
+pub record IsNextEntry (history : History) (committed : Committed) (entry : Entry) : Type 0 where
+  pub last : IsLastEntry (history ++ committed ∷ []) entry
+  pub writable : IsWritable (history ++ committed ∷ [])
+
 -- the entries of a change that is planned have its rows: behind the history, and behind the undecided change where there is one
 pub record HavePlannedRows (seen : History) (waiting : Option Waited) (committed : Committed) (alone : Entry) (behind : Option Entry) : Type 0 where
-  pub alone_is : IsLastEntry (seen ++ committed ∷ []) alone
-  pub behind_is : IfSome behind (λ entry. IsLastEntry (with_one seen (change_of waiting) ++ committed ∷ []) entry)
+  pub alone_is : IsNextEntry seen committed alone
+  pub behind_is : IfSome behind (IsNextEntry (with_one seen (change_of waiting)) committed)

@@ -1,5 +1,5 @@
 -- What contracts see of the commit room, and what is so of every one.
-use Rattle.std.specs.Prelude.{◌≡◌, ◌≢◌, ℕ, suc, ◌<◌, ◌≤◌, List, [], ◌∷◌, ◌++◌, length, map, Bool, true, false, Option, Some, None, option_map, Contains, slice_get}
+use Rattle.std.specs.Prelude.{◌≡◌, ◌≢◌, ℕ, ◌<◌, ◌≤◌, List, [], ◌∷◌, ◌++◌, length, map, Bool, true, false, Option, Some, None, option_map, Contains, slice_get}
 use Rattle.history_board.specs.Boards.{BoardId}
 use Rattle.history_board.specs.Bearings.{since_of, IsAbove}
 use Rattle.history_board.specs.Tokens.{Kept, Seen, IsSound}
@@ -8,7 +8,7 @@ use Rattle.history_board.specs.declared.view.Enrolment.{Enrolment}
 use Rattle.change_model.specs.declared.entry.Entry.{Entry}
 use Rattle.change_model.specs.declared.history.Committed.{Committed}
 use Rattle.change_model.specs.declared.history.Origin.{Origin}
-use Rattle.change_model.specs.Entries.{IsEntry}
+use Rattle.change_model.specs.Entries.{AreTimed}
 use Rattle.record_log.specs.declared.log.RecordLog.{RecordLog}
 use Rattle.record_log.specs.Logs.{file_of, needs_mend}
 
@@ -53,11 +53,6 @@ is_some None = false
 is_some (Some x) = true
 
 -- ---- what is so of every room
-
--- each entry is of its time, its rows stand by key, each key once
-abbrev pub AreTimed : ℕ → List Entry → Type 0
-AreTimed time [] = Unit {0}
-AreTimed time (entry ∷ entries) = IsEntry (suc time) entry × AreTimed (suc time) entries
 
 -- the origins are those of the last changes of the history: of the changes since opening
 pub record AreOriginsOf (seen : List Committed) (origins : List Origin) : Type 0 where

@@ -35,7 +35,7 @@ impl<D: Disk> CommitState<D> {
         requires to_home { receipt.home ≤ 16 }
         requires body { 1 ≤ receipt.body }
         ensures step { CommitStep D.fault_count (pin_back pin.number self.old) self.new seen.old seen.new (record { change = resolved.change; origin = origin }) result }
-        ensures rows { HasRows self.old → IsResolvedFor self.old.seen self.old.undecided pin.time resolved origin → HasRows self.new }
+        ensures rows { HasRows self.old → IsResolvedFor self.old.seen pin.time resolved → HasRows self.new }
         ensures sound { IsSoundRoom D.fault_count self.new }
         ensures stays { Stays (pin_back pin.number self.old) self.new }
         ensures still { BearsSession seen.new origin.session }

@@ -1,8 +1,8 @@
 // The entries of the history.
 ghost use Rattle.std.specs.Prelude.{◌≡◌, ◌≤◌, [], length, map, slice_range, IfOk};
 ghost use Rattle.std.specs.Arc.{arc_value};
-ghost use Rattle.change_model.specs.Entries.{AreEntriesBetween};
-ghost use Rattle.commit_core.specs.Rooms.{IsSoundRoom, AreTimed};
+ghost use Rattle.change_model.specs.Entries.{AreEntriesBetween, AreTimed};
+ghost use Rattle.commit_core.specs.Rooms.{IsSoundRoom};
 ghost use Rattle.commit_core.specs.Resolving.{HasRows};
 
 use crate::plan::shared;
@@ -25,6 +25,7 @@ impl<D: Disk> CommitState<D> {
         requires order { from ≤ upto }
         requires known { upto ≤ length self.old.seen }
         ensures entries { IfOk result (λ found. map arc_value found.0 ≡ slice_range self.old.entries from upto) }
+        ensures timed { IfOk result (λ found. AreTimed from (map arc_value found.0)) }
         ensures rows { HasRows self.old → IfOk result (λ found. AreEntriesBetween self.old.seen from upto (map arc_value found.0)) }
         ensures note { IfOk result (λ found. found.1 ≡ record { board = self.old.board; seen = self.old.seen; floor = self.old.floor_seen; count = self.old.posted; bears = [] }) }
         ensures same { self.new ≡ self.old }

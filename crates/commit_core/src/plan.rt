@@ -1,12 +1,14 @@
 //! What a commit makes before its first call of the device: its record, and the entry for each place that it may come to.
 ghost use Rattle.std.specs.Prelude.{◌≡◌, ◌+◌, ◌^◌, ◌<◌, ◌≤◌, ◌++◌, ◌∷◌, ◌↔◌, ℕ, List, Option, None, Some, [], length, map, option_map, take, drop, slice_range, IfOk, IfSome, OnOk, OnErr};
 ghost use Rattle.std.specs.Arc.{arc_value};
+ghost use Rattle.std.specs.List.{AllByRecursion};
+ghost use Rattle.term_core.specs.Term.{IsStatement};
 ghost use Rattle.disk_core.specs.Moments.{Told};
 ghost use Rattle.base_core.specs.Numbers.{number_bytes};
 ghost use Rattle.change_model.specs.History.{History};
 ghost use Rattle.change_model.specs.Lexicon.{lexicon_at};
 ghost use Rattle.change_model.specs.declared.history.Origin.{Origin as AnyOrigin};
-ghost use Rattle.change_model.specs.Entries.{IsEntry, IsLastEntry, IsResolved, AreEntriesAfter};
+ghost use Rattle.change_model.specs.Entries.{IsEntry, IsResolved, AreEntriesAfter};
 ghost use Rattle.change_model.specs.Laws.{IsWritable};
 ghost use Rattle.record_log.specs.Items.{with_one};
 ghost use Rattle.record_log.specs.Items.{Carries};
@@ -14,7 +16,7 @@ ghost use Rattle.record_log.specs.Logs.{IsSameLog, IsFull, HasRoom};
 ghost use Rattle.commit_core.specs.Ledgers.{IsLedger};
 ghost use Rattle.commit_core.specs.Rooms.{change_of};
 ghost use Rattle.commit_core.specs.Resolving.{HaveRows, IsResolvedFor, committed_by};
-ghost use Rattle.commit_core.specs.Puts.{IsEntryIn, IsBehind, HavePlannedRows, chosen};
+ghost use Rattle.commit_core.specs.Puts.{IsEntryIn, IsBehind, IsNextEntry, HavePlannedRows, chosen};
 
 use crate::ledger::Ledger;
 use crate::parts::Parts;
@@ -94,7 +96,7 @@ impl<D: Disk> Parts<D> {
         ensures alone { IfOk result (λ planned. IsEntryIn (length self.old.ledger.keeper.seen + 1) (arc_value planned.entries.alone)) }
         ensures behind { IfOk result (λ planned. IsBehind self.old.ledger.waiting (length self.old.ledger.keeper.seen + 2) (option_map arc_value planned.entries.behind)) }
         ensures rows { IfOk result (λ planned. (origin : AnyOrigin) → HaveRows self.old.ledger.keeper.seen self.old.ledger.entries self.old.ledger.waiting
-            → IsResolvedFor self.old.ledger.keeper.seen self.old.ledger.waiting pinned resolved.now origin
+            → IsResolvedFor self.old.ledger.keeper.seen pinned resolved.now
             → HavePlannedRows self.old.ledger.keeper.seen self.old.ledger.waiting (committed_by resolved.now origin) (arc_value planned.entries.alone) (option_map arc_value planned.entries.behind)) }
         ensures ledger { self.new.ledger ≡ record self.old.ledger { room = self.new.ledger.room } }
         ensures sound { IsLedger self.new.ledger }
@@ -124,7 +126,7 @@ fn plan_entries(
     ensures alone { IfOk result (λ planned. IsEntryIn (length ledger.now.keeper.seen + 1) (arc_value planned.alone)) }
     ensures behind { IfOk result (λ planned. IsBehind ledger.now.waiting (length ledger.now.keeper.seen + 2) (option_map arc_value planned.behind)) }
     ensures rows { IfOk result (λ planned. (origin : AnyOrigin) → HaveRows ledger.now.keeper.seen ledger.now.entries ledger.now.waiting
-        → IsResolvedFor ledger.now.keeper.seen ledger.now.waiting pinned resolved.now origin
+        → IsResolvedFor ledger.now.keeper.seen pinned resolved.now
         → HavePlannedRows ledger.now.keeper.seen ledger.now.waiting (committed_by resolved.now origin) (arc_value planned.alone) (option_map arc_value planned.behind)) }
 {
     some_entries_law();
@@ -132,7 +134,9 @@ fn plan_entries(
     let entries = ledger.entries();
     let length = ledger.length();
     let later = List::of(shared(alloc, after(entries, pinned as usize))?);
-    let time = length.saturating_add(1);
+    let Some(time) = length.checked_add(1) else {
+        return Err(Want::NoMemory);
+    };
     let alone = entry_of(alloc, resolved, &later, terms_after(entries), time)?;
     let alone = Arc::new(alloc, alone)?;
     let behind = plan_behind(alloc, ledger, resolved, later)?;
@@ -155,15 +159,17 @@ fn plan_behind(
 ) -> Result<Option<Arc<Entry>>, Want>
     ensures is { IfOk result (λ behind. IsBehind ledger.now.waiting (length ledger.now.keeper.seen + 2) (option_map arc_value behind)) }
     ensures rows { IfOk result (λ behind. (pinned : ℕ) (origin : AnyOrigin) → HaveRows ledger.now.keeper.seen ledger.now.entries ledger.now.waiting
-        → IsResolvedFor ledger.now.keeper.seen ledger.now.waiting pinned resolved.now origin → AreEntriesAfter ledger.now.keeper.seen pinned (map arc_value later)
-        → IfSome (option_map arc_value behind) (λ entry. IsLastEntry (with_one ledger.now.keeper.seen (change_of ledger.now.waiting) ++ committed_by resolved.now origin ∷ []) entry)) }
+        → IsResolvedFor ledger.now.keeper.seen pinned resolved.now → AreEntriesAfter ledger.now.keeper.seen pinned (map arc_value later)
+        → IfSome (option_map arc_value behind) (IsNextEntry (with_one ledger.now.keeper.seen (change_of ledger.now.waiting)) (committed_by resolved.now origin))) }
 {
     grown_entries_law();
     let Some(earlier) = ledger.undecided_entry()? else {
         return Ok(None);
     };
     let terms = earlier.terms;
-    let time = ledger.length().saturating_add(2);
+    let Some(time) = ledger.length().checked_add(2) else {
+        return Err(Want::NoMemory);
+    };
     let mut later = later.into_items();
     later.push(earlier)?;
     let entry = entry_of(alloc, resolved, &List::of(later), terms, time)?;
@@ -179,8 +185,8 @@ pub fn plan_next(
 ) -> Result<Arc<Entry>, Want>
     ensures is { IfOk result (λ entry. IsEntry time (arc_value entry)) }
     ensures rows { IfOk result (λ entry. (origin : AnyOrigin) → AreEntriesAfter ledger.now.keeper.seen 0 ledger.now.entries → IsResolved ledger.now.keeper.seen resolved.now
-        → IsWritable (ledger.now.keeper.seen ++ committed_by resolved.now origin ∷ []) → time ≡ length ledger.now.keeper.seen + 1
-        → IsLastEntry (ledger.now.keeper.seen ++ committed_by resolved.now origin ∷ []) (arc_value entry)) }
+        → IsWritable ledger.now.keeper.seen → AllByRecursion IsStatement resolved.now.change.statements → time ≡ length ledger.now.keeper.seen + 1
+        → IsNextEntry ledger.now.keeper.seen (committed_by resolved.now origin) (arc_value entry)) }
 {
     let later = List::of(Vec::new(alloc));
     let entry = entry_of(alloc, resolved, &later, terms_after(ledger.entries()), time)?;

@@ -1,10 +1,11 @@
 // The changes that opening found in the log.
 ghost use Rattle.std.specs.Prelude.{◌≡◌, ◌+◌, ◌<◌, ◌++◌, ◌∷◌, [], length, min, None, IfOk, OnErr};
+ghost use Rattle.std.specs.List.{AllByRecursion};
+ghost use Rattle.term_core.specs.Term.{IsStatement};
 ghost use Rattle.record_log.specs.Logs.{count_of};
 ghost use Rattle.change_model.specs.Entries.{IsResolved};
-ghost use Rattle.change_model.specs.Laws.{IsWritable};
 ghost use Rattle.commit_core.specs.Rooms.{IsSoundRoom};
-ghost use Rattle.commit_core.specs.Resolving.{HasRows, committed_by};
+ghost use Rattle.commit_core.specs.Resolving.{HasRows};
 ghost use Rattle.commit_core.specs.Steps.{Reloads};
 
 use crate::plan::plan_next;
@@ -22,7 +23,7 @@ impl<D: Disk> CommitState<D> {
         requires below { length self.old.seen < count_of self.old.log }
         ensures step { IfOk result (Reloads self.old self.new resolved.change) }
         ensures rows { HasRows self.old → self.old.undecided ≡ None → IsResolved self.old.seen resolved
-            → IsWritable (self.old.seen ++ committed_by resolved (record { session = 0; command = min (length self.old.seen + 1) 4294967295 }) ∷ []) → HasRows self.new }
+            → AllByRecursion IsStatement resolved.change.statements → HasRows self.new }
         ensures err { OnErr result (self.new ≡ self.old) }
         ensures sound { IsSoundRoom D.fault_count self.new }
     {

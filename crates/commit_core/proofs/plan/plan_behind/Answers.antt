@@ -1,15 +1,16 @@
-use Rattle.std.proofs.Common.{◌≡◌, ◌+◌, ◌<◌, ◌^◌, List, [], ◌∷◌, ◌++◌, map, take, length-append, length, Some, sym, ap, ◌∙◌, subst, rules, arith}
+use Rattle.std.proofs.Common.{◌≡◌, ◌+◌, List, [], ◌∷◌, ◌++◌, map, take, length, Some, sym, ap, ◌∙◌, subst, rules, arith}
 use Rattle.std.specs.Prelude.{option_map}
 use Rattle.std.specs.Arc.{arc_value}
 use Rattle.change_model.specs.declared.entry.Entry.{Entry}
 use Rattle.change_model.specs.declared.history.Committed.{Committed}
 use Rattle.change_model.specs.History.{History}
-use Rattle.change_model.specs.Entries.{IsLastEntry, IsResolved, AreEntriesAfter}
+use Rattle.change_model.specs.Entries.{IsResolved, AreEntriesAfter}
+use Rattle.change_model.specs.Laws.{IsWritable}
 use Rattle.record_log.specs.Items.{with_one}
 use Rattle.std.proofs.lemmas.List.{map-append}
 use Rattle.commit_core.specs.Rooms.{change_of}
 use Rattle.commit_core.specs.Resolving.{committed_by}
-use Rattle.commit_core.specs.Puts.{IsEntryIn}
+use Rattle.commit_core.specs.Puts.{IsEntryIn, IsNextEntry}
 use Rattle.commit_core.specs.Steps.{entry_of_waited}
 use Rattle.commit_core.proofs.Planning.{behind_some}
 use Rattle.commit_core.proofs.RowsKept.{after_waiting, waiting_front, waiting_terms, waiting_length}
@@ -40,8 +41,7 @@ returns-clause-rows c = λ pinned origin have resolved are.
     let ids : IsResolved (take pinned history) c.args.resolved.now = subst (λ (h : History). IsResolved h c.args.resolved.now) (sym (waiting_front seen w pinned resolved.within)) resolved.ids in
     let terms = ap (λ (e : Entry). e.terms) c.deref.ensures ∙ waiting_terms seen w earlier have.waits is in
     let long : length history ≡ length seen + 1 = waiting_length seen w earlier is in
-    let times : length (history ++ made ∷ []) < 2 ^ 64 = resolved.writable_behind.times in
-    let time : c.saturating_add-time.result ≡ length history + 1 =
-    omega (arith, long, times, length-append history (made ∷ []), c.saturating_add-time.ensures, c.length.ensures.length) in
-    subst (λ (e : Entry). IsLastEntry (history ++ made ∷ []) e) (sym c.in_ok-new.ensures.ok)
-    (c.in_ok-entry.ensures.last history pinned origin ids behind resolved.writable_behind terms time)
+    let time : c.in-Some-checked_add.time ≡ length history + 1 = omega (arith, long, c.in-Some-checked_add.ensures, c.length.ensures.length) in
+    let longer : IsWritable (history ++ made ∷ []) = c.in_ok-entry.ensures.fits history pinned origin ids behind have.writable_with resolved.statements terms time in
+    subst (λ (e : Entry). IsNextEntry history made e) (sym c.in_ok-new.ensures.ok)
+    (record { last = c.in_ok-entry.ensures.last history pinned origin ids behind longer terms time; writable = longer })

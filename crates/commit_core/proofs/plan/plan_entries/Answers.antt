@@ -1,9 +1,11 @@
-use Rattle.std.proofs.Common.{◌≡◌, ◌+◌, ◌<◌, ◌≤◌, ◌^◌, List, [], ◌∷◌, ◌++◌, length, map, drop, sym, ap, ◌∙◌, subst, arith, length-append}
+use Rattle.std.proofs.Common.{◌≡◌, ◌+◌, ◌≤◌, List, [], ◌∷◌, ◌++◌, length, map, drop, sym, ap, ◌∙◌, subst, arith}
 use Rattle.std.specs.Arc.{arc_value}
 use Rattle.std.proofs.lemmas.List.{length-map, drop-map}
 use Rattle.change_model.specs.declared.entry.Entry.{Entry}
 use Rattle.change_model.specs.declared.history.Committed.{Committed}
-use Rattle.change_model.specs.Entries.{IsLastEntry, AreEntriesAfter}
+use Rattle.change_model.specs.Entries.{AreEntriesAfter}
+use Rattle.change_model.specs.Laws.{IsWritable}
+use Rattle.commit_core.specs.Puts.{IsNextEntry}
 use Rattle.commit_core.specs.Resolving.{committed_by}
 use Rattle.commit_core.proofs.RowsKept.{after_pinned}
 use Rattle.commit_core.proofs.plan.plan_entries.Goals as goal
@@ -24,11 +26,10 @@ returns-clause-rows c = λ origin have resolved.
     subst (λ (l : List Entry). AreEntriesAfter seen pinned l) (sym later_is)
     (after_pinned c.some_entries_law.ensures c.counted_entries_law.ensures seen ledger.entries pinned have.entered resolved.within) in
     let terms = c.terms_after.ensures seen (subst (λ (l : List Entry). AreEntriesAfter seen 0 l) (sym c.entries-entries.ensures) have.entered) in
-    let times : length (seen ++ made ∷ []) < 2 ^ 64 = resolved.writable.times in
-    let time : c.saturating_add-time.result ≡ length seen + 1 =
-    omega (arith, times, length-append seen (made ∷ []), c.saturating_add-time.ensures, c.length-length.ensures.length) in
+    let time : c.in-Some.time ≡ length seen + 1 = omega (arith, c.in-Some.ensures, c.length-length.ensures.length) in
+    let longer : IsWritable (seen ++ made ∷ []) = c.in_ok-alone.ensures.fits seen pinned origin resolved.ids are have.writable resolved.statements terms time in
     record {
-      alone_is = subst (λ (e : Entry). IsLastEntry (seen ++ made ∷ []) e) (sym c.in_ok-alone-2.ensures.ok)
-          (c.in_ok-alone.ensures.last seen pinned origin resolved.ids are resolved.writable terms time);
+      alone_is = subst (λ (e : Entry). IsNextEntry seen made e) (sym c.in_ok-alone-2.ensures.ok)
+          (record { last = c.in_ok-alone.ensures.last seen pinned origin resolved.ids are longer terms time; writable = longer });
       behind_is = c.in_ok-behind.ensures.rows pinned origin have resolved are;
     }

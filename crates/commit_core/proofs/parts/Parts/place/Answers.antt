@@ -1,11 +1,12 @@
-use Rattle.std.proofs.Common.{◌+◌, ◌∷◌, ◌++◌, [], length, Bool, Some, option_map, Ok, Err, sym, ap, subst, arith, refl}
+use Rattle.std.proofs.Common.{◌+◌, length, Bool, Some, option_map, Ok, Err, sym, ap, subst, arith, refl}
 use Rattle.std.specs.Arc.{arc_value}
 use Rattle.change_model.specs.declared.entry.Entry.{Entry}
-use Rattle.change_model.specs.Entries.{IsEntry, IsLastEntry}
+use Rattle.change_model.specs.Entries.{IsEntry}
 use Rattle.commit_core.specs.Ledgers.{Ledgered, room_of}
+use Rattle.commit_core.specs.Puts.{IsNextEntry}
 use Rattle.commit_core.proofs.Deciding.{settle_fails, settle_fails_carries, settle_memory, mend_leaves, put_behind, put_carries, put_leaves, others_further}
 use Rattle.commit_core.proofs.Planning.{planned_entry}
-use Rattle.commit_core.proofs.RowsKept.{settle_rows, put_rows, chosen_last}
+use Rattle.commit_core.proofs.RowsKept.{settle_rows, put_rows, chosen_next}
 use Rattle.commit_core.proofs.parts.Parts.place.Goals as goal
 
 pub returns-in-Err-clause-step : goal.returns-in-Err-clause-step
@@ -100,9 +101,9 @@ returns-clause-rows g c = λ have planned.
     let made = c.args.planned.entries in
     let first = settle_rows {T = Bool} c.grown_entries_law.ensures g.D.Disk.fault_count (room_of old.ledger old.disk old.log most) (room_of mid.ledger mid.disk mid.log most)
     (Ok c.in-Ok.kept) (c.in-Ok.ensures.step most) have in
-    let last = chosen_last c.in-Ok.kept old.ledger.waiting old.ledger.keeper.seen mid.ledger.keeper.seen c.args.committed (arc_value made.alone) (option_map arc_value made.behind)
+    let next = chosen_next c.in-Ok.kept old.ledger.waiting old.ledger.keeper.seen mid.ledger.keeper.seen c.args.committed (arc_value made.alone) (option_map arc_value made.behind)
     (length old.ledger.keeper.seen + 2) (λ none. let e = c.in-Ok.ensures.none none in cc e) (ap (λ (l : Ledgered). l.keeper.seen) c.in-Ok.ensures.decided) c.requires.behind planned in
     put_rows c.grown_entries_law.ensures g.D.Disk.fault_count mid.ledger new.ledger (room_of mid.ledger mid.disk mid.log most) (room_of new.ledger new.disk new.log most)
     c.args.seen.now c.put.new.seen c.args.committed (arc_value c.choose.result) c.put.result refl refl (ap (λ (l : Ledgered). l.waiting) c.in-Ok.ensures.decided) refl
     (c.put.ensures.step most (omega arith)) c.put.ensures.entered c.put.ensures.waits first
-    (subst (λ (e : Entry). IsLastEntry (mid.ledger.keeper.seen ++ c.args.committed ∷ []) e) (sym c.choose.ensures) last)
+    (subst (λ (e : Entry). IsNextEntry mid.ledger.keeper.seen c.args.committed e) (sym c.choose.ensures) next)

@@ -38,12 +38,12 @@ returns-clause-rows g c = λ have resolved.
     let made : Committed = record { change = c.args.resolved.change; origin = c.args.origin } in
     let entries = c.in_ok-planned.planned.entries in
     let have_first = subst (λ (r : Room _). HasRows r) (sym c.self.view_is) have in
-    let resolved_first = subst (λ (r : Room _). IsResolvedFor r.seen r.undecided c.args.pin.time c.args.resolved c.args.origin) (sym c.self.view_is) resolved in
+    let resolved_first = subst (λ (r : Room _). IsResolvedFor r.seen c.args.pin.time c.args.resolved) (sym c.self.view_is) resolved in
     let seen = ap (λ (l : Ledgered). l.keeper.seen) c.release.ensures.is in
     let waits = ap (λ (l : Ledgered). l.waiting) c.release.ensures.is in
     let have_back = moved back.keeper.seen first.keeper.seen back.entries first.entries back.waiting first.waiting seen (ap (λ (l : Ledgered). l.entries) c.release.ensures.is) waits have_first in
-    let resolved_back = resolved_moved back.keeper.seen first.keeper.seen back.waiting first.waiting c.time-pinned.result c.args.pin.time c.args.resolved c.args.origin
-    seen waits c.time-pinned.ensures.time resolved_first in
+    let resolved_back = resolved_moved back.keeper.seen first.keeper.seen c.time-pinned.result c.args.pin.time c.args.resolved
+    seen c.time-pinned.ensures.time resolved_first in
     let planned = c.in_ok-planned.ensures.rows c.args.origin have_back resolved_back in
     let seen_ready = ap (λ (l : Ledgered). l.keeper.seen) c.in_ok-planned.ensures.ledger in
     let waits_ready = ap (λ (l : Ledgered). l.waiting) c.in_ok-planned.ensures.ledger in

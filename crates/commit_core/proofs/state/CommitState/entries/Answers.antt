@@ -2,8 +2,9 @@ use Rattle.std.proofs.Common.{◌≡◌, ℕ, ◌-◌, List, length, map, take, 
 use Rattle.std.specs.Arc.{arc_value}
 use Rattle.std.proofs.lemmas.List.{take-map, drop-map}
 use Rattle.change_model.specs.declared.entry.Entry.{Entry}
-use Rattle.change_model.specs.Entries.{AreEntriesBetween}
+use Rattle.change_model.specs.Entries.{AreEntriesBetween, AreTimed}
 use Rattle.commit_core.specs.Rooms.{Room}
+use Rattle.commit_core.proofs.Histories.{timed_range}
 use Rattle.commit_core.proofs.state.CommitState.entries.Goals as goal
 
 pub returns-clause-entries : goal.returns-clause-entries
@@ -27,3 +28,9 @@ returns-clause-rows g c = λ have.
     c.some_entries_law.ensures room.seen 0 from upto (length room.seen) room.entries have.entered (omega arith) c.requires.order c.requires.known in
     subst (λ (l : List Entry). AreEntriesBetween room.seen from upto l) (sym (returns-clause-entries g c))
     (subst (λ (n : ℕ). AreEntriesBetween room.seen from upto (take (upto - from) (drop n room.entries))) none_less some)
+
+pub returns-clause-timed : goal.returns-clause-timed
+returns-clause-timed g c =
+    let room = c.args.self.now in
+    let all : AreTimed 0 room.entries = subst (λ (r : Room _). AreTimed 0 r.entries) c.self.view_is c.self.invariant.0.history.timed in
+    subst (λ (l : List Entry). AreTimed c.args.from l) (sym (returns-clause-entries g c)) (timed_range c.args.from c.args.upto room.entries all)
