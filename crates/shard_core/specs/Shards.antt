@@ -3,10 +3,8 @@ use Rattle.std.specs.Prelude.{◌≡◌, ℕ, suc, ◌≤◌, List, [], ◌∷�
 use Rattle.std.specs.List.{AllByRecursion}
 use Rattle.fed_bytes.specs.declared.span.Span.{Span}
 use Rattle.row_core.specs.declared.rows.Index.{Index}
-use Rattle.row_core.specs.declared.rows.Index.TheVariants.{T2i, I2t, Spo, Pos, Osp}
 use Rattle.row_core.specs.declared.rows.Row.{Row}
 use Rattle.row_core.specs.Rows.{IsWindow}
-use Rattle.change_model.specs.declared.entry.Entry.{Entry}
 use Rattle.change_model.specs.History.{History}
 use Rattle.change_model.specs.Windows.{WindowData, WindowStandsFor}
 use Rattle.change_model.specs.WindowLaws.{AreAdjacent, IsNextWindow}
@@ -38,14 +36,6 @@ pub record ShardStandsFor (history : History) (floor : ℕ) (shard : ShardData) 
   pub shard_is : IsShard shard
   pub stand : AllByRecursion (WindowStandsFor shard.index history) shard.windows
   pub floors : HaveFloorsUpTo floor shard
-
--- the entry's rows of an index
-abbrev pub rows_for : Index → Entry → List Row
-rows_for T2i entry = entry.t2i
-rows_for I2t entry = entry.i2t
-rows_for Spo entry = entry.spo
-rows_for Pos entry = entry.pos
-rows_for Osp entry = entry.osp
 
 -- a window without rows at the time 0
 abbrev pub no_rows_yet : Span → WindowData

@@ -5,9 +5,10 @@ ghost use Rattle.window_core.specs.Windows.{IsPart, IsPassage};
 ghost use Rattle.window_merge.specs.Values.{AreValuesAt, AreAskedFor};
 ghost use Rattle.change_model.specs.History.{History};
 ghost use Rattle.change_model.specs.Laws.{IsWritable};
+ghost use Rattle.change_model.specs.Entries.{rows_for};
 ghost use Rattle.change_model.specs.WindowLaws.{AreGivenAt, IsNextWindow};
 ghost use Rattle.shard_core.specs.declared.fault.ShardFault.TheVariants.{Behind};
-ghost use Rattle.shard_core.specs.Shards.{ShardStandsFor, IsNextShard, HaveNextLast, HaveFloorsUpTo, no_rows_yet, rows_for};
+ghost use Rattle.shard_core.specs.Shards.{ShardStandsFor, IsNextShard, HaveNextLast, HaveFloorsUpTo, no_rows_yet};
 ghost use Rattle.shard_core.specs.Viewing.{data_of, live_data, EndBefore, IsPartIn};
 ghost use Rattle.shard_core.specs.Reading.{AreLastValues, IsNoShardDamage, IsShardCounted, shard_rows};
 

@@ -1,6 +1,7 @@
 use Rattle.std.proofs.Common.{◌≡◌, ◌+◌, suc, map, refl, sym, ap, ◌∙◌, subst, arith}
+use Rattle.change_model.specs.Entries.{rows_for}
 use Rattle.change_model.specs.WindowLaws.{AreGivenAt}
-use Rattle.shard_core.specs.Shards.{ShardData, HaveFloorsUpTo, ShardStandsFor, IsNextShard, rows_for}
+use Rattle.shard_core.specs.Shards.{ShardData, HaveFloorsUpTo, ShardStandsFor, IsNextShard}
 use Rattle.shard_core.specs.Viewing.{data_of}
 use Rattle.shard_core.proofs.Next.{ends_before, next_is_shard, next_stands, next_floors}
 use Rattle.shard_core.proofs.shard.Shard.apply.Goals as goal
