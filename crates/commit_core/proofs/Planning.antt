@@ -1,5 +1,5 @@
 -- What is made before a put fits the place to which the change comes.
-use Rattle.std.proofs.Common.{◌≡◌, ℕ, zero, suc, ◌+◌, ◌<◌, ◌^◌, List, [], ◌∷◌, length, Bool, true, false, cond, Option, Some, None, refl, sym, ◌∙◌, ap, subst, arith, length-append}
+use Rattle.std.proofs.Common.{◌≡◌, ℕ, zero, suc, ◌+◌, List, [], ◌∷◌, length, Bool, true, false, cond, Option, Some, None, refl, sym, ◌∙◌, ap, subst, arith, length-append}
 use Rattle.std.specs.Prelude.{slice_get}
 use Rattle.std.proofs.lemmas.Bool.{false≢true}
 use Rattle.std.proofs.lemmas.List.{take_all}
@@ -15,7 +15,7 @@ use Rattle.commit_core.specs.Records.{Recorded, IsCommitOf}
 use Rattle.commit_core.specs.Rooms.{Room, Waited, change_of}
 use Rattle.commit_core.specs.Steps.{pin_back, entry_of_waited}
 use Rattle.commit_core.specs.Ledgers.{Ledgered, room_of}
-use Rattle.commit_core.specs.Puts.{IsEntryIn, IsBehind, chosen}
+use Rattle.commit_core.specs.Puts.{IsBehind, chosen}
 
 -- ---- entries
 
@@ -39,17 +39,17 @@ last_terms history entries n entry are at last =
     is.last.terms ∙ ap (λ (h : History). length (lexicon_at h (length h))) (take_all (length history) history (omega arith))
 
 pub planned_entry : (kept : Bool) (waiting : Option Waited) (seen between : List Committed) (alone : Entry) (behind : Option Entry) → (waiting ≡ None → kept ≡ false)
-    → between ≡ cond kept (with_one seen (change_of waiting)) seen → length between + 1 < 2 ^ 64 → IsEntryIn (length seen + 1) alone
+    → between ≡ cond kept (with_one seen (change_of waiting)) seen → IsEntry (length seen + 1) alone
     → IsBehind waiting (length seen + 2) behind → IsEntry (length between + 1) (chosen kept alone behind)
-planned_entry false waiting seen between alone behind untried is fits is_alone is_behind =
+planned_entry false waiting seen between alone behind untried is is_alone is_behind =
     let same : length between ≡ length seen = ap length is in
-    subst (λ n. IsEntry (n + 1) alone) (sym same) (is_alone (omega arith))
-planned_entry true None seen between alone behind untried is fits is_alone is_behind = absurd (false≢true (sym (untried refl)))
-planned_entry true (Some waited) seen between alone None untried is fits is_alone is_behind = absurd is_behind
-planned_entry true (Some waited) seen between alone (Some behind) untried is fits is_alone is_behind =
+    subst (λ n. IsEntry (n + 1) alone) (sym same) is_alone
+planned_entry true None seen between alone behind untried is is_alone is_behind = absurd (false≢true (sym (untried refl)))
+planned_entry true (Some waited) seen between alone None untried is is_alone is_behind = absurd is_behind
+planned_entry true (Some waited) seen between alone (Some behind) untried is is_alone is_behind =
     let more : length between ≡ length seen + 1 = omega (arith, ap length is, length-append seen (waited.committed ∷ [])) in
     let two : length seen + 2 ≡ length between + 1 = omega arith in
-    subst (λ n. IsEntry n behind) two (is_behind (omega arith))
+    subst (λ n. IsEntry n behind) two is_behind
 
 -- ---- the room that was planned for
 
@@ -79,6 +79,6 @@ pub behind_none : (waiting : Option Waited) (time : ℕ) → None ≡ entry_of_w
 behind_none None time is = tt
 behind_none (Some waited) time is = absurd cc
 
-pub behind_some : (waiting : Option Waited) (time : ℕ) (earlier entry : Entry) → Some earlier ≡ entry_of_waited waiting → IsEntryIn time entry → IsBehind waiting time (Some entry)
+pub behind_some : (waiting : Option Waited) (time : ℕ) (earlier entry : Entry) → Some earlier ≡ entry_of_waited waiting → IsEntry time entry → IsBehind waiting time (Some entry)
 behind_some None time earlier entry is is_entry = absurd cc
 behind_some (Some waited) time earlier entry is is_entry = is_entry

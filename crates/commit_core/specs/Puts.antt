@@ -1,5 +1,5 @@
 -- Private: what the put of a change does, and what is made before it.
-use Rattle.std.specs.Prelude.{◌≡◌, ℕ, ◌<◌, ◌^◌, List, [], ◌∷◌, ◌++◌, Bool, true, false, Option, Some, None, Result, Ok, Err, ◌⊎◌, IfSome}
+use Rattle.std.specs.Prelude.{◌≡◌, ℕ, List, [], ◌∷◌, ◌++◌, Bool, true, false, Option, Some, None, Result, Ok, Err, ◌⊎◌, IfSome}
 use Rattle.disk_core.specs.Moments.{Told}
 use Rattle.history_board.specs.Tokens.{Seen}
 use Rattle.change_model.specs.declared.entry.Entry.{Entry}
@@ -34,16 +34,12 @@ PutCarries told room entries coming (Err NoMemory) = ⊥
 PutCarries told room entries coming (Err (DiskFault count)) = ⊥
 PutCarries told room entries coming (Err HistoryFull) = ⊥
 
--- the entry is of this time, if the time fits
-abbrev pub IsEntryIn : ℕ → Entry → Type 0
-IsEntryIn time entry = time < 2 ^ 64 → IsEntry time entry
-
 -- where a change is undecided, there is an entry for this time too, behind it
 abbrev pub IsBehind : Option Waited → ℕ → Option Entry → Type 0
 IsBehind None time None = Unit {0}
 IsBehind None time (Some entry) = ⊥
 IsBehind (Some waited) time None = ⊥
-IsBehind (Some waited) time (Some entry) = IsEntryIn time entry
+IsBehind (Some waited) time (Some entry) = IsEntry time entry
 
 -- after a put that was refused the entries are as they were, and what is undecided is this change or nothing
 pub record PutWaits (old new : Ledgered) (committed : Committed) (entry : Entry) : Type 0 where

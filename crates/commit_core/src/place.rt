@@ -1,6 +1,7 @@
 // A change that is planned comes to its place: behind what is decided first.
 ghost use Rattle.std.specs.Prelude.{◌≡◌, ◌≢◌, ◌+◌, ◌≤◌, ℕ, List, Option, Some, length, option_map, IfErr};
 ghost use Rattle.std.specs.Arc.{arc_value};
+ghost use Rattle.change_model.specs.Entries.{IsEntry};
 ghost use Rattle.record_log.specs.Items.{IsMidway};
 ghost use Rattle.record_log.specs.Logs.{HasRoom};
 ghost use Rattle.record_log.specs.Devices.{ChangesOnly};
@@ -9,7 +10,7 @@ ghost use Rattle.commit_core.specs.Records.{Recorded, IsCommitOf, CommitCarries,
 ghost use Rattle.commit_core.specs.Steps.{CommitStep, Stays, RECORD_SIZE};
 ghost use Rattle.commit_core.specs.Ledgers.{IsLedger, AreTied, room_of};
 ghost use Rattle.commit_core.specs.Resolving.{HaveRows};
-ghost use Rattle.commit_core.specs.Puts.{IsEntryIn, IsBehind, HavePlannedRows};
+ghost use Rattle.commit_core.specs.Puts.{IsBehind, HavePlannedRows};
 
 use crate::fault::CommitFault;
 use crate::parts::Parts;
@@ -34,7 +35,7 @@ impl<D: Disk> Parts<D> {
         requires size { length planned.prepared ≡ RECORD_SIZE }
         requires board { seen.old.board ≡ self.old.ledger.keeper.board }
         requires one { BearsOrigin seen.old committed.origin }
-        requires alone { IsEntryIn (length self.old.ledger.keeper.seen + 1) (arc_value planned.entries.alone) }
+        requires alone { IsEntry (length self.old.ledger.keeper.seen + 1) (arc_value planned.entries.alone) }
         requires behind { IsBehind self.old.ledger.waiting (length self.old.ledger.keeper.seen + 2) (option_map arc_value planned.entries.behind) }
         ensures step { CommitStep D.fault_count (room_of self.old.ledger self.old.disk self.old.log most) (room_of self.new.ledger self.new.disk self.new.log most) seen.old seen.new committed result }
         ensures rows { HaveRows self.old.ledger.keeper.seen self.old.ledger.entries self.old.ledger.waiting

@@ -16,7 +16,7 @@ ghost use Rattle.record_log.specs.Logs.{IsSameLog, IsFull, HasRoom};
 ghost use Rattle.commit_core.specs.Ledgers.{IsLedger};
 ghost use Rattle.commit_core.specs.Rooms.{change_of};
 ghost use Rattle.commit_core.specs.Resolving.{HaveRows, IsResolvedFor, committed_by};
-ghost use Rattle.commit_core.specs.Puts.{IsEntryIn, IsBehind, IsNextEntry, HavePlannedRows, chosen};
+ghost use Rattle.commit_core.specs.Puts.{IsBehind, IsNextEntry, HavePlannedRows, chosen};
 
 use crate::ledger::Ledger;
 use crate::parts::Parts;
@@ -93,7 +93,7 @@ impl<D: Disk> Parts<D> {
         requires home { receipt.now.home < 2 ^ 8 }
         requires sound { IsLedger self.old.ledger }
         ensures record { IfOk result (λ planned. planned.prepared ≡ receipt.now.home ∷ number_bytes receipt.now.body) }
-        ensures alone { IfOk result (λ planned. IsEntryIn (length self.old.ledger.keeper.seen + 1) (arc_value planned.entries.alone)) }
+        ensures alone { IfOk result (λ planned. IsEntry (length self.old.ledger.keeper.seen + 1) (arc_value planned.entries.alone)) }
         ensures behind { IfOk result (λ planned. IsBehind self.old.ledger.waiting (length self.old.ledger.keeper.seen + 2) (option_map arc_value planned.entries.behind)) }
         ensures rows { IfOk result (λ planned. (origin : AnyOrigin) → HaveRows self.old.ledger.keeper.seen self.old.ledger.entries self.old.ledger.waiting
             → IsResolvedFor self.old.ledger.keeper.seen pinned resolved.now
@@ -123,7 +123,7 @@ fn plan_entries(
     resolved: &Resolved,
     pinned: u64,
 ) -> Result<PlannedEntries, Want>
-    ensures alone { IfOk result (λ planned. IsEntryIn (length ledger.now.keeper.seen + 1) (arc_value planned.alone)) }
+    ensures alone { IfOk result (λ planned. IsEntry (length ledger.now.keeper.seen + 1) (arc_value planned.alone)) }
     ensures behind { IfOk result (λ planned. IsBehind ledger.now.waiting (length ledger.now.keeper.seen + 2) (option_map arc_value planned.behind)) }
     ensures rows { IfOk result (λ planned. (origin : AnyOrigin) → HaveRows ledger.now.keeper.seen ledger.now.entries ledger.now.waiting
         → IsResolvedFor ledger.now.keeper.seen pinned resolved.now

@@ -1,16 +1,16 @@
-use Rattle.std.proofs.Common.{◌≡◌, ◌+◌, List, [], ◌∷◌, ◌++◌, map, take, length, Some, sym, ap, ◌∙◌, subst, rules, arith}
+use Rattle.std.proofs.Common.{◌≡◌, ℕ, ◌+◌, List, [], ◌∷◌, ◌++◌, map, take, length, Some, sym, ap, ◌∙◌, subst, arith}
 use Rattle.std.specs.Prelude.{option_map}
 use Rattle.std.specs.Arc.{arc_value}
 use Rattle.change_model.specs.declared.entry.Entry.{Entry}
 use Rattle.change_model.specs.declared.history.Committed.{Committed}
 use Rattle.change_model.specs.History.{History}
-use Rattle.change_model.specs.Entries.{IsResolved, AreEntriesAfter}
+use Rattle.change_model.specs.Entries.{IsEntry, IsResolved, AreEntriesAfter}
 use Rattle.change_model.specs.Laws.{IsWritable}
 use Rattle.record_log.specs.Items.{with_one}
 use Rattle.std.proofs.lemmas.List.{map-append}
 use Rattle.commit_core.specs.Rooms.{change_of}
 use Rattle.commit_core.specs.Resolving.{committed_by}
-use Rattle.commit_core.specs.Puts.{IsEntryIn, IsNextEntry}
+use Rattle.commit_core.specs.Puts.{IsNextEntry}
 use Rattle.commit_core.specs.Steps.{entry_of_waited}
 use Rattle.commit_core.proofs.Planning.{behind_some}
 use Rattle.commit_core.proofs.RowsKept.{after_waiting, waiting_front, waiting_terms, waiting_length}
@@ -20,7 +20,9 @@ pub returns-clause-is : goal.returns-clause-is
 returns-clause-is c =
     let w = c.args.ledger.now.waiting in
     let is : Some (arc_value c.in-Some.earlier) ≡ entry_of_waited w = sym (ap (λ o. option_map arc_value o) c.in-Some.is) ∙ c.in_ok-earlier.ensures in
-    let is_entry : IsEntryIn (length c.args.ledger.now.keeper.seen + 2) (arc_value c.in_ok-new.field-0) = search rules in
+    let time : c.in-Some-checked_add.time ≡ length c.args.ledger.now.keeper.seen + 2 = omega (arith, c.in-Some-checked_add.ensures, c.length.ensures.length) in
+    let is_entry : IsEntry (length c.args.ledger.now.keeper.seen + 2) (arc_value c.in_ok-new.field-0) =
+    subst (λ (n : ℕ). IsEntry n (arc_value c.in_ok-new.field-0)) time (subst (λ (e : Entry). IsEntry c.in-Some-checked_add.time e) (sym c.in_ok-new.ensures.ok) c.in_ok-entry.ensures.entry) in
     behind_some w (length c.args.ledger.now.keeper.seen + 2) (arc_value c.in-Some.earlier) (arc_value c.in_ok-new.field-0) is is_entry
 
 pub returns-clause-rows : goal.returns-clause-rows

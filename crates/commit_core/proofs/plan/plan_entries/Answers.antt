@@ -1,14 +1,19 @@
-use Rattle.std.proofs.Common.{◌≡◌, ◌+◌, ◌≤◌, List, [], ◌∷◌, ◌++◌, length, map, drop, sym, ap, ◌∙◌, subst, arith}
+use Rattle.std.proofs.Common.{◌≡◌, ℕ, ◌+◌, ◌≤◌, List, [], ◌∷◌, ◌++◌, length, map, drop, sym, ap, ◌∙◌, subst, arith}
 use Rattle.std.specs.Arc.{arc_value}
 use Rattle.std.proofs.lemmas.List.{length-map, drop-map}
 use Rattle.change_model.specs.declared.entry.Entry.{Entry}
 use Rattle.change_model.specs.declared.history.Committed.{Committed}
-use Rattle.change_model.specs.Entries.{AreEntriesAfter}
+use Rattle.change_model.specs.Entries.{IsEntry, AreEntriesAfter}
 use Rattle.change_model.specs.Laws.{IsWritable}
 use Rattle.commit_core.specs.Puts.{IsNextEntry}
 use Rattle.commit_core.specs.Resolving.{committed_by}
 use Rattle.commit_core.proofs.RowsKept.{after_pinned}
 use Rattle.commit_core.proofs.plan.plan_entries.Goals as goal
+
+pub returns-clause-alone : goal.returns-clause-alone
+returns-clause-alone c =
+    let time : c.in-Some.time ≡ length c.args.ledger.now.keeper.seen + 1 = omega (arith, c.in-Some.ensures, c.length-length.ensures.length) in
+    subst (λ (n : ℕ). IsEntry n (arc_value c.in_ok-alone-2.alone)) time (subst (λ (e : Entry). IsEntry c.in-Some.time e) (sym c.in_ok-alone-2.ensures.ok) c.in_ok-alone.ensures.entry)
 
 pub returns-clause-rows : goal.returns-clause-rows
 returns-clause-rows c = λ origin have resolved.

@@ -47,7 +47,7 @@ put-requires-clause-entry g c =
     let planned = c.args.planned.entries in
     let is : IsEntry (length new.keeper.seen + 1) _ =
     planned_entry c.in-Ok.kept old.waiting old.keeper.seen new.keeper.seen (arc_value planned.alone) (option_map arc_value planned.behind)
-    (λ none. let e = c.in-Ok.ensures.none none in cc e) (ap (λ (l : Ledgered). l.keeper.seen) c.in-Ok.ensures.decided) (omega arith) c.requires.alone c.requires.behind in
+    (λ none. let e = c.in-Ok.ensures.none none in cc e) (ap (λ (l : Ledgered). l.keeper.seen) c.in-Ok.ensures.decided) c.requires.alone c.requires.behind in
     subst (λ (e : Entry). IsEntry (length new.keeper.seen + 1) e) (sym c.choose.ensures) is
 
 pub returns-clause-step : goal.returns-clause-step
