@@ -6,6 +6,7 @@ use crate::caller::first_at;
 use base_core::Want;
 use disk_core::{Disk, NoDisk};
 use fed_bytes::{Key, Span};
+use row_core::{Cell, Row, Rows};
 use std::alloc::Global;
 use std::test::Fail;
 
