@@ -1,5 +1,5 @@
 -- The files of a disk hold the bodies of older journals, and behind them those of the last one.
-use Rattle.std.proofs.Common.{◌≡◌, ℕ, zero, suc, ◌-◌, ◌*◌, ◌<◌, ◌≤◌, List, [], ◌++◌, length, map, Bool, true, false, nat_lt, if◌then◌else◌, Option, Some, None, refl, sym, ◌∙◌, ap, subst, arith, inl}
+use Rattle.std.proofs.Common.{◌≡◌, ℕ, zero, suc, ◌-◌, ◌*◌, ◌^◌, ◌<◌, ◌≤◌, List, [], ◌++◌, length, map, Bool, true, false, nat_lt, if◌then◌else◌, Option, Some, None, refl, sym, ◌∙◌, ap, subst, arith, inl}
 use Rattle.std.proofs.lemmas.Bool.{lt-ltb, le-ltb, ltb-true, ltb-false}
 use Rattle.std.proofs.lemmas.List.{append_assoc}
 use Rattle.std.proofs.lemmas.List.Concat.{flat_map-append}
@@ -51,29 +51,30 @@ each_by images older last found j false false is_below is_behind before at short
     let same : last ≡ j = omega (arith, ltb-false j last is_below, ltb-false last j is_behind) in
     subst (λ (k : ℕ). IsJournal (images (2 * k)) found) same at
 
-has_bodies : (images : ℕ → List ℕ) (older : ℕ → List (List (List ℕ))) (last : ℕ) (found : List (List (List ℕ))) → 0 < last
+has_bodies : (images : ℕ → List ℕ) (older : ℕ → List (List (List ℕ))) (last : ℕ) (found : List (List (List ℕ))) → 0 < last → last ≤ 2 ^ 62
     → ((j : ℕ) → 0 < j → j < last → IsJournal (images (2 * j)) (older j)) → IsJournal (images (2 * last)) found
-    → ((j : ℕ) → last < j → length (images (2 * j)) ≤ 1) → HasBodies images (bodies_upto older (last - 1) ++ bodies_in found)
-has_bodies images older last found place before at short =
+    → ((j : ℕ) → last < j → j ≤ 2 ^ 62 → length (images (2 * j)) ≤ 1) → HasBodies images (bodies_upto older (last - 1) ++ bodies_in found)
+has_bodies images older last found place few before at short =
     record {
       journals = last;
+      few = few;
       groups = family older last found;
-      each = λ j positive. each_by images older last found j (nat_lt j last) (nat_lt last j) refl refl (λ below. before j positive below) at (short j);
+      each = λ j positive bounded. each_by images older last found j (nat_lt j last) (nat_lt last j) refl refl (λ below. before j positive below) at (λ after. short j after bounded);
       behind = λ j after. family_behind older last found j after;
       bodies_are = sym (upto_last older last found (last - 1) (omega (arith, place)));
     }
 
 -- a state in which only the last journal differs
-state_has : (older : ℕ → List (List (List ℕ))) (last : ℕ) (old state : State) (found : List (List (List ℕ))) (images : ℕ → List ℕ) → 0 < last
+state_has : (older : ℕ → List (List (List ℕ))) (last : ℕ) (old state : State) (found : List (List (List ℕ))) (images : ℕ → List ℕ) → 0 < last → last ≤ 2 ^ 62
     → KeepsJournals old older last → AreFreshBehind old last → SameBut (2 * last) old state → AllByRecursion IsGroup found → Images state images
     → IsLog (images (2 * last)) (map group_bytes found) → HasBodies images (bodies_upto older (last - 1) ++ bodies_in found)
-state_has older last old state found images place kept fresh same are is_images is_log =
-    has_bodies images older last found place
+state_has older last old state found images place few kept fresh same are is_images is_log =
+    has_bodies images older last found place few
     (λ j positive below. kept j positive below (images (2 * j)) (subst (λ (now : FileState). IsImage now (images (2 * j))) (same (2 * j) (omega (arith, below))) (is_images (2 * j))))
     (record { log = is_log; are = are })
-    (λ j after.
+    (λ j after bounded.
     let image : IsImage (old (2 * j)) (images (2 * j)) = subst (λ (now : FileState). IsImage now (images (2 * j))) (same (2 * j) (omega (arith, after))) (is_images (2 * j)) in
-    omega (arith, image.not_longer, fresh j after))
+    omega (arith, image.not_longer, fresh j after bounded))
 
 -- these groups, and more of them
 pub record IsGrown (groups found : List (List (List ℕ))) : Type 0 where
@@ -86,26 +87,26 @@ grown_bodies upto groups extra =
     ap (λ (bodies : List (List ℕ)). upto ++ bodies) (flat_map-append (λ (group : List (List ℕ)). group) groups extra)
     ∙ sym (append_assoc upto (bodies_in groups) (bodies_in extra))
 
-pub state_leaves : (older : ℕ → List (List (List ℕ))) (last : ℕ) (groups : List (List (List ℕ))) (Are : List (List (List ℕ)) → Type 0) (old : State) → 0 < last
+pub state_leaves : (older : ℕ → List (List (List ℕ))) (last : ℕ) (groups : List (List (List ℕ))) (Are : List (List (List ℕ)) → Type 0) (old : State) → 0 < last → last ≤ 2 ^ 62
     → KeepsJournals old older last → AreFreshBehind old last → ((found : List (List (List ℕ))) → Are found → IsGrown groups found)
     → (state : State) → SameBut (2 * last) old state × EachImage (2 * last) (LogsItems group_bytes Are) state → LeavesBodies (bodies_upto older (last - 1) ++ bodies_in groups) state
-state_leaves older last groups Are old place kept fresh grows state has images is_images =
+state_leaves older last groups Are old place few kept fresh grows state has images is_images =
     let logs : LogsItems group_bytes Are (images (2 * last)) = has.1 (images (2 * last)) (is_images (2 * last)) in
     let grown : IsGrown groups logs.0 = grows logs.0 logs.1 in (
       bodies_in grown.extra,
       subst (HasBodies images)
           (ap (λ (found : List (List (List ℕ))). bodies_upto older (last - 1) ++ bodies_in found) grown.found_is ∙ grown_bodies (bodies_upto older (last - 1)) groups grown.extra)
-          (state_has older last old state logs.0 images place kept fresh has.0 grown.are is_images logs.2),
+          (state_has older last old state logs.0 images place few kept fresh has.0 grown.are is_images logs.2),
     )
 
 -- a call of the log in the last journal
-pub moments_leave : (older : ℕ → List (List (List ℕ))) (last : ℕ) (groups : List (List (List ℕ))) (Are : List (List (List ℕ)) → Type 0) (old : Told) (new : Option Told) (file : ℕ) → 0 < last
+pub moments_leave : (older : ℕ → List (List (List ℕ))) (last : ℕ) (groups : List (List (List ℕ))) (Are : List (List (List ℕ)) → Type 0) (old : Told) (new : Option Told) (file : ℕ) → 0 < last → last ≤ 2 ^ 62
     → KeepsJournals old.now older last → AreFreshBehind old.now last → ((found : List (List (List ℕ))) → Are found → IsGrown groups found) → file ≡ 2 * last
     → MomentsHave file (LogsItems group_bytes Are) (Some old) new → MomentsKeep (bodies_upto older (last - 1) ++ bodies_in groups) (Some old) new
-moments_leave older last groups Are old None file place kept fresh grows is goes = absurd goes
-moments_leave older last groups Are old (Some new) file place kept fresh grows is goes =
+moments_leave older last groups Are old None file place few kept fresh grows is goes = absurd goes
+moments_leave older last groups Are old (Some new) file place few kept fresh grows is goes =
     goes_weaker (λ state. SameBut (2 * last) old.now state × EachImage (2 * last) (LogsItems group_bytes Are) state) (LeavesBodies (bodies_upto older (last - 1) ++ bodies_in groups))
-    (state_leaves older last groups Are old.now place kept fresh grows) old new
+    (state_leaves older last groups Are old.now place few kept fresh grows) old new
     (subst (λ (n : ℕ). MomentsHave n (LogsItems group_bytes Are) (Some old) (Some new)) is goes)
 
 -- and all other files are as they were
@@ -120,4 +121,4 @@ kept_still older last old new same kept j positive below image is_image =
     kept j positive below image (subst (λ (now : FileState). IsImage now image) (same (2 * j) (omega (arith, below))) is_image)
 
 pub fresh_still : (last : ℕ) (old new : State) → SameBut (2 * last) old new → AreFreshBehind old last → AreFreshBehind new last
-fresh_still last old new same fresh j after = subst (λ (now : FileState). now.longest ≤ 1) (sym (same (2 * j) (omega (arith, after)))) (fresh j after)
+fresh_still last old new same fresh j after bounded = subst (λ (now : FileState). now.longest ≤ 1) (sym (same (2 * j) (omega (arith, after)))) (fresh j after bounded)

@@ -20,7 +20,7 @@ at_longer bodies more number body at = record { numbered = at.numbered; named = 
 pub stores_leaves : (told : Told) (room : BodyJournal) (bodies : List (List ℕ)) → Stores (Some told) room bodies → LeavesBodies bodies told.now
 stores_leaves told room bodies stores =
     subst (λ (all : List (List ℕ)). LeavesBodies all told.now) (sym stores.bodies_are)
-    (state_leaves stores.older room.journals stores.groups (Decides stores.groups stores.waiting) told.now stores.place stores.kept stores.fresh
+    (state_leaves stores.older room.journals stores.groups (Decides stores.groups stores.waiting) told.now stores.place stores.few stores.kept stores.fresh
     (decides_grown stores.groups stores.waiting stores.are stores.coming) told.now (
       same_but_same _ told.now,
       λ image is_image. carried_items group_bytes room.log (Some told) stores.groups stores.waiting stores.carried image

@@ -68,7 +68,7 @@ pub mend_keeps : (old new : Option Told) (log : RecordLog) (last stored grouped 
 mend_keeps None new log last stored grouped helds bodies stores leaves = absurd stores
 mend_keeps (Some old) new log last stored grouped helds bodies stores leaves =
     subst (λ (all : List (List ℕ)). MomentsKeep all (Some old) new) (sym stores.bodies_are)
-    (moments_leave stores.older last stores.groups (Decides stores.groups stores.waiting) old new (file_of log) stores.place stores.kept stores.fresh
+    (moments_leave stores.older last stores.groups (Decides stores.groups stores.waiting) old new (file_of log) stores.place stores.few stores.kept stores.fresh
     (decides_grown stores.groups stores.waiting stores.are stores.coming) stores.file (leaves stores.groups stores.waiting stores.carried))
 
 -- a put of a log that is settled
@@ -79,7 +79,7 @@ pub put_keeps : (old new : Option Told) (log : RecordLog) (last stored grouped :
 put_keeps None new log last stored grouped helds bodies group settled is_group stores leaves = absurd stores
 put_keeps (Some old) new log last stored grouped helds bodies group settled is_group stores leaves =
     subst (λ (all : List (List ℕ)). MomentsKeep all (Some old) new) (sym stores.bodies_are)
-    (moments_leave stores.older last stores.groups (Decides stores.groups (Some group)) old new (file_of log) stores.place stores.kept stores.fresh
+    (moments_leave stores.older last stores.groups (Decides stores.groups (Some group)) old new (file_of log) stores.place stores.few stores.kept stores.fresh
     (decides_grown stores.groups (Some group) stores.are is_group) stores.file
     (leaves stores.groups
     (subst (λ (waiting : Option (List (List ℕ))). CarriesItems group_bytes log (Some old) stores.groups waiting) (settled_waiting log old stores.groups stores.waiting settled stores.carried) stores.carried)))
@@ -119,6 +119,7 @@ next old new log after last stored grouped helds bodies stores same file groups 
       waiting = waiting;
       file = file ∙ stores.file;
       place = stores.place;
+      few = stores.few;
       kept = kept_still stores.older last old.now new.now same stores.kept;
       carried = carried;
       fresh = fresh_still last old.now new.now same stores.fresh;
@@ -215,6 +216,7 @@ held_stores (Some told) log last stored grouped helds now_helds bodies keeps sto
       waiting = stores.waiting;
       file = stores.file;
       place = stores.place;
+      few = stores.few;
       kept = stores.kept;
       carried = stores.carried;
       fresh = stores.fresh;

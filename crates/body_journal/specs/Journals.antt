@@ -1,5 +1,5 @@
 -- What the files of a service's disk say. Journal j is file 2 j, from 1 on. Its bodies are numbered from 1 through its journals.
-use Rattle.std.specs.Prelude.{◌≡◌, ℕ, zero, suc, ◌-◌, ◌*◌, ◌<◌, ◌≤◌, List, [], ◌++◌, map, Some, slice_get}
+use Rattle.std.specs.Prelude.{◌≡◌, ℕ, zero, suc, ◌-◌, ◌*◌, ◌^◌, ◌<◌, ◌≤◌, List, [], ◌++◌, map, Some, slice_get}
 use Rattle.std.specs.List.{flat_map, AllByRecursion}
 use Rattle.disk_core.specs.Moments.{State, Images, EachImage}
 use Rattle.record_log.specs.Records.{IsLog}
@@ -19,11 +19,12 @@ abbrev pub bodies_upto : (ℕ → List (List (List ℕ))) → ℕ → List (List
 bodies_upto groups zero = []
 bodies_upto groups (suc j) = bodies_upto groups j ++ bodies_in (groups (suc j))
 
--- the journals of a disk hold these bodies, in order; so many have all of them
+-- The journals of a disk hold these bodies, in order; so many have all of them. A disk has at most 2 ^ 62 journals, and what else lies on it isn't read.
 pub record HasBodies (images : ℕ → List ℕ) (bodies : List (List ℕ)) : Type 0 where
   pub journals : ℕ
+  pub few : journals ≤ 2 ^ 62
   pub groups : ℕ → List (List (List ℕ))
-  pub each : (j : ℕ) → 0 < j → IsJournal (images (2 * j)) (groups j)
+  pub each : (j : ℕ) → 0 < j → j ≤ 2 ^ 62 → IsJournal (images (2 * j)) (groups j)
   pub behind : (j : ℕ) → journals < j → groups j ≡ []
   pub bodies_are : bodies ≡ bodies_upto groups journals
 
@@ -42,4 +43,4 @@ KeepsJournals state groups last = (j : ℕ) → 0 < j → j < last → EachImage
 
 -- the files of the journals behind this one are missing, or a start has begun them
 abbrev pub AreFreshBehind : State → ℕ → Type 0
-AreFreshBehind state last = (j : ℕ) → last < j → (state (2 * j)).longest ≤ 1
+AreFreshBehind state last = (j : ℕ) → last < j → j ≤ 2 ^ 62 → (state (2 * j)).longest ≤ 1

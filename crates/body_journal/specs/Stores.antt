@@ -1,5 +1,5 @@
 -- What a device keeps of the bodies of a service. Where the device doesn't tell its files, these words are false.
-use Rattle.std.specs.Prelude.{◌≡◌, ℕ, ◌*◌, ◌-◌, ◌<◌, List, [], ◌++◌, length, Option, Some, None, slice_get, IfSome}
+use Rattle.std.specs.Prelude.{◌≡◌, ℕ, ◌*◌, ◌-◌, ◌^◌, ◌<◌, ◌≤◌, List, [], ◌++◌, length, Option, Some, None, slice_get, IfSome}
 use Rattle.std.specs.List.{AllByRecursion}
 use Rattle.disk_core.specs.Moments.{Told, MomentsGoOn, BothTell}
 use Rattle.record_log.specs.Items.{CarriesItems}
@@ -30,6 +30,7 @@ pub record IsStoring (told : Told) (log : RecordLog) (last stored grouped : ℕ)
   pub waiting : Option (List (List ℕ))
   pub file : file_of log ≡ 2 * last
   pub place : 0 < last
+  pub few : last ≤ 2 ^ 62
   pub kept : KeepsJournals told.now older last
   pub carried : CarriesItems group_bytes log (Some told) groups waiting
   pub fresh : AreFreshBehind told.now last

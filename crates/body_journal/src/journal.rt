@@ -10,7 +10,7 @@ ghost use Rattle.disk_core.specs.Moments.{Told};
 ghost use Rattle.record_log.specs.Devices.{ChangesOnly, MomentsHave};
 ghost use Rattle.record_log.specs.Items.{CarriesItems, IsPutOf, LogsItems, Decides};
 ghost use Rattle.record_log.specs.Faults.{IsCountedBy, IsPutFault};
-ghost use Rattle.record_log.specs.Logs.{file_of, sizes_of, needs_mend, IsFull};
+ghost use Rattle.record_log.specs.Logs.{file_of, limit_of, sizes_of, needs_mend, IsFull};
 ghost use Rattle.record_log.specs.declared.fault.LogFault.{LogFault as AnyLogFault};
 ghost use Rattle.body_journal.specs.Faults.{IsCaused};
 ghost use Rattle.body_journal.specs.Groups.{group_bytes, group_size, IsFullest};
@@ -154,6 +154,7 @@ impl BodyJournal {
         ensures same_journals { journals_of self.new ≡ journals_of self.old }
         ensures same_serials { serials_of self.new ≡ serials_of self.old }
         ensures file { file_of (log_of self.new) ≡ file_of (log_of self.old) }
+        ensures limit { limit_of (log_of self.new) ≡ limit_of (log_of self.old) }
 
         // A body that is stored already is answered without a device call. Else its record was put, and is in.
         ensures known { (before : ℕ) → HasBody self.old ticket.serial (arc_value ticket.body) before → IsOk result × (disk.new ≡ disk.old) × IsAnswered self.old self.new ticket.serial }
@@ -172,6 +173,7 @@ impl BodyJournal {
         ensures given_up { IfErr result (IsGivenUp self.old self.new ticket.serial) }
 
         // What the device keeps, and what a crash leaves at any moment of the call.
+        ensures others { ChangesOnly (file_of (log_of self.old)) (D.told disk.old) (D.told disk.new) }
         ensures stores { (bodies : Items (Items ℕ)) → Stores (D.told disk.old) self.old bodies
             → (more : Items (Items ℕ)) × Stores (D.told disk.new) self.new (bodies ++ more) × IfOk result (λ receipt. IsAt (bodies ++ more) receipt.body (arc_value ticket.body)) }
         ensures moments { (bodies : Items (Items ℕ)) → Stores (D.told disk.old) self.old bodies → MomentsKeep bodies (D.told disk.old) (D.told disk.new) }
@@ -221,6 +223,7 @@ impl BodyJournal {
         ensures journals { journals_of self.new ≡ journals_of self.old }
         ensures serials { serials_of self.new ≡ serials_of self.old }
         ensures file { file_of (log_of self.new) ≡ file_of (log_of self.old) }
+        ensures limit { limit_of (log_of self.new) ≡ limit_of (log_of self.old) }
         ensures counted { IsCountedBy (D.fault_count disk.old) (D.fault_count disk.new) result }
         ensures faults { IfErr result IsPutFault }
         ensures put { IfOk result (IsStoredBy self.old self.new serial body.now) }
@@ -228,6 +231,7 @@ impl BodyJournal {
         ensures known { (serial : ℕ) (bytes : Items ℕ) (before : ℕ) → HasBody self.old serial bytes before → HasBody self.new serial bytes before }
         ensures full { needs_mend (log_of self.old) ≡ false → (others : ℕ) × IsFullest body.now (others_after self.old false serial) others
             × ((result ≡ Err LogFault.Full) ↔ IsFull (log_of self.old) (group_size (body.now ∷ take others (others_after self.old false serial)))) }
+        ensures others { ChangesOnly (file_of (log_of self.old)) (D.told disk.old) (D.told disk.new) }
         ensures stores { (bodies : Items (Items ℕ)) → Stores (D.told disk.old) self.old bodies → StoresAt (D.told disk.new) self.new bodies body.now result }
         ensures moments { (bodies : Items (Items ℕ)) → Stores (D.told disk.old) self.old bodies → MomentsKeep bodies (D.told disk.old) (D.told disk.new) }
     {
@@ -241,6 +245,7 @@ impl BodyJournal {
         ensures journals { journals_of self.new ≡ journals_of self.old }
         ensures serials { serials_of self.new ≡ serials_of self.old }
         ensures file { file_of (log_of self.new) ≡ file_of (log_of self.old) }
+        ensures limit { limit_of (log_of self.new) ≡ limit_of (log_of self.old) }
         ensures settled { OnOk result (needs_mend (log_of self.new) ≡ false) }
         ensures unmarked { OnOk result (AreUnmarked self.new.held.items) }
         ensures known { (serial : ℕ) (bytes : Items ℕ) (before : ℕ) → HasBody self.old serial bytes before → HasBody self.new serial bytes before }
@@ -252,6 +257,7 @@ impl BodyJournal {
         ensures failed { IfErr result (λ fault. fault ≡ LogFault.Failed) }
         ensures err { OnErr result (self.new ≡ self.old) }
         ensures counted { IsCountedBy (D.fault_count disk.old) (D.fault_count disk.new) result }
+        ensures others { ChangesOnly (file_of (log_of self.old)) (D.told disk.old) (D.told disk.new) }
         ensures stores { (bodies : Items (Items ℕ)) → Stores (D.told disk.old) self.old bodies → StoresMend (D.told disk.new) self.new bodies result }
         ensures moments { (bodies : Items (Items ℕ)) → Stores (D.told disk.old) self.old bodies → MomentsKeep bodies (D.told disk.old) (D.told disk.new) }
     {
@@ -275,6 +281,7 @@ impl BodyJournal {
         ensures journals { journals_of self.new ≡ journals_of self.old }
         ensures serials { serials_of self.new ≡ serials_of self.old }
         ensures file { file_of (log_of self.new) ≡ file_of (log_of self.old) }
+        ensures limit { limit_of (log_of self.new) ≡ limit_of (log_of self.old) }
         ensures before { IfOk result (λ before. before ≡ stored_of self.old) }
         ensures put { OnOk result (IsPut self.old self.new serial body.now) }
         ensures full { (others : ℕ) × IsFullest body.now (others_of self.old serial) others
@@ -284,6 +291,7 @@ impl BodyJournal {
         ensures faults { IfErr result IsPutFault }
         ensures mended { result ≢ Err LogFault.NeedsMend }
         ensures counted { IsCountedBy (D.fault_count disk.old) (D.fault_count disk.new) result }
+        ensures others { ChangesOnly (file_of (log_of self.old)) (D.told disk.old) (D.told disk.new) }
         ensures stores { (bodies : Items (Items ℕ)) → Stores (D.told disk.old) self.old bodies → StoresPut (D.told disk.new) self.new bodies body.now result }
         ensures moments { (bodies : Items (Items ℕ)) → Stores (D.told disk.old) self.old bodies → MomentsKeep bodies (D.told disk.old) (D.told disk.new) }
     {
@@ -318,6 +326,7 @@ impl BodyJournal {
         requires within { group_size (body.now ∷ grouped_in self.old.held.items) ≤ 2 ^ 30 }
         ensures same { self.new ≡ record self.old { log = self.new.log } }
         ensures file { file_of (log_of self.new) ≡ file_of (log_of self.old) }
+        ensures limit { limit_of (log_of self.new) ≡ limit_of (log_of self.old) }
         ensures settled { OnOk result (needs_mend (log_of self.new) ≡ false) }
         ensures sizes { OnOk result (sizes_of (log_of self.new) ≡ sizes_of (log_of self.old) ++ group_size (body.now ∷ grouped_in self.old.held.items) ∷ []) }
         ensures mended { needs_mend (log_of self.old) ≡ false → result ≢ Err LogFault.NeedsMend }

@@ -1,5 +1,7 @@
-use Rattle.std.proofs.Common.{◌≡◌, ℕ, List, ◌++◌, false, Ok}
-use Rattle.record_log.specs.Logs.{needs_mend}
+use Rattle.std.proofs.Common.{◌≡◌, ℕ, List, ◌++◌, false, Ok, subst}
+use Rattle.record_log.specs.Devices.{ChangesOnly}
+use Rattle.record_log.specs.Logs.{needs_mend, file_of}
+use Rattle.record_log.proofs.Moving.{moments_further}
 use Rattle.body_journal.specs.Stores.{Stores}
 use Rattle.body_journal.proofs.Flushing.{stored_by, left_by, full_same, stores_at}
 use Rattle.body_journal.proofs.Storing.{keep_further}
@@ -39,3 +41,8 @@ returns-clause-moments g c = λ bodies stores.
 
 pub returns-clause-known : goal.returns-clause-known
 returns-clause-known g c = λ serial bytes before has. c.put_group.ensures.known serial bytes before (c.in_ok-settle.ensures.known serial bytes before has)
+
+pub returns-clause-others : goal.returns-clause-others
+returns-clause-others g c =
+    moments_further (file_of c.args.self.now.log) (λ image. Unit {0}) (g.D.Disk.told c.args.disk.now) (g.D.Disk.told c.settle.new.disk) (g.D.Disk.told c.put_group.new.disk) c.in_ok-settle.ensures.others
+    (subst (λ (file : ℕ). ChangesOnly file (g.D.Disk.told c.settle.new.disk) (g.D.Disk.told c.put_group.new.disk)) c.in_ok-settle.ensures.file c.put_group.ensures.others)
