@@ -7,8 +7,8 @@ use Rattle.std.specs.Cmp.{nat_cmp_total, nat_cmp_is, unsigned_Decides}
 use Rattle.std.specs.Cmp.Lexicographic.{slice_cmp, pointwise}
 use Rattle.std.proofs.lemmas.Slice.Eq.{strip_suffix_is}
 use Rattle.std.proofs.lemmas.Cmp.{ranked, tied_itself}
-use Rattle.std.proofs.lemmas.List.{take_all, take_more}
-use Rattle.fed_bytes.proofs.Orders.{no_answer}
+use Rattle.std.proofs.lemmas.List.{take_all, take_more, append-nil}
+use Rattle.fed_bytes.proofs.Orders.{no_answer, up_to-itself}
 use Rattle.fed_bytes.specs.Keys.{IsBefore, IsUpTo, IsBeforeEnd, AreBytes, BeginsWith}
 use Rattle.fed_bytes.specs.Ends.{onto_end, end_of, EndsWithoutFf}
 
@@ -130,3 +130,31 @@ pub ff_stripped : (bytes : List ℕ) (r : Option (Bor (List ℕ)))
     → MatchOption r (pointwise nat_eq (drop (length bytes - 1) bytes) (255 ∷ []) ≡ false) (λ x. (pointwise nat_eq (drop (length bytes - 1) bytes) (255 ∷ []) ≡ true) × (x.now ≡ take (length bytes - 1) bytes) × (length x.now + 1 ≡ length bytes))
     → MatchOption r ((front : List ℕ) → bytes ≢ front ++ 255 ∷ []) (λ x. bytes ≡ x.now ++ 255 ∷ [])
 ff_stripped bytes r h = strip_suffix_is unsigned_Decides bytes (255 ∷ []) r h
+
+-- a span of a prefix has the prefix
+pub prefix_own : (prefix left : List ℕ) (right : Option (List ℕ)) → left ≡ prefix → right ≡ end_of prefix → IsUpTo left left × IsBeforeEnd left right
+prefix_own prefix left right same ended = rw (same, ended) (up_to-itself prefix, subst (λ (key : List ℕ). IsBeforeEnd key (end_of prefix)) (append-nil prefix) (before_end-begins prefix []))
+
+-- what stands from a key on, and before the key with a zero byte behind it, is the key
+pub key_only : (key other : List ℕ) → IsUpTo key other → IsBefore other (key ++ 0 ∷ []) → other ≡ key
+key_only [] [] up before = refl
+key_only [] (c ∷ cs) up before =
+    let parts = before_parts c 0 cs [] before in
+    let none : c ≤ 0 = parts.0 in absurd (not_before_empty cs (parts.1 (omega arith)))
+key_only (b ∷ bs) [] up before = no_answer up
+key_only (b ∷ bs) (c ∷ cs) up before =
+    let low = up_parts b c bs cs up in
+    let high = before_parts c b cs (bs ++ 0 ∷ []) before in
+    let below : b ≤ c = low.0 in
+    let above : c ≤ b = high.0 in
+    let same : b ≡ c = omega arith in ap (λ (first : ℕ). first ∷ cs) (sym same) ∙ ap (λ (rest : List ℕ). b ∷ rest) (key_only bs cs (low.1 same) (high.1 (sym same)))
+
+-- a key stands before itself with a zero byte behind it
+pub key_before : (key : List ℕ) → IsBefore key (key ++ 0 ∷ [])
+key_before [] = refl
+key_before (b ∷ bs) = ap (λ r. is_lt (ordering_then r (slice_cmp nat_cmp bs (bs ++ 0 ∷ [])))) (tied_itself nat_cmp_total b) ∙ key_before bs
+
+-- both ways, for a span whose ends are these
+pub key_span : (key left end : List ℕ) → left ≡ key → end ≡ key ++ 0 ∷ [] → (other : List ℕ) → ((IsUpTo left other × IsBefore other end) ↔ (other ≡ key))
+key_span key left end same ended other =
+    rw (same, ended) (λ h. key_only key other h.0 h.1, λ e. subst (λ (one : List ℕ). IsUpTo key one × IsBefore one (key ++ 0 ∷ [])) (sym e) (up_to-itself key, key_before key))

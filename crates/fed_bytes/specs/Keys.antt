@@ -39,3 +39,7 @@ IsMeeting one other both = (key : List ℕ) → (IsIn both key ↔ (IsIn one key
 -- the keys of the span are those that begin with the prefix
 abbrev pub IsPrefixSpan : List ℕ → Span → Type 0
 IsPrefixSpan prefix span = (key : List ℕ) → AreBytes key → (IsIn span key ↔ BeginsWith prefix key)
+
+-- the only key of the span is this one
+abbrev pub IsKeySpan : List ℕ → Span → Type 0
+IsKeySpan key span = (other : List ℕ) → (IsIn span other ↔ (other ≡ key))

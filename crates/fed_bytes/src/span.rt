@@ -2,7 +2,7 @@
 ghost use Rattle.std.specs.Prelude.{◌≡◌, ◌↔◌, ℕ, List, IsTrue, false, IfOk, IfSome, MatchOption};
 ghost use Rattle.std.specs.Ordering.{is_lt, is_le, nat_cmp};
 ghost use Rattle.std.specs.Cmp.Lexicographic.{slice_cmp};
-ghost use Rattle.fed_bytes.specs.Keys.{IsIn, IsBeforeEnd, AreApart, IsMeeting, IsPrefixSpan};
+ghost use Rattle.fed_bytes.specs.Keys.{IsIn, IsBeforeEnd, AreApart, IsMeeting, IsPrefixSpan, IsKeySpan};
 ghost use Rattle.fed_bytes.specs.Ends.{later, earlier_end, end_of, EndsWithoutFf};
 
 use crate::key::Key;
@@ -50,11 +50,28 @@ impl Span {
 
     /// The span of the keys that begin with these bytes.
     pub fn of_prefix(alloc: Global, prefix: &[u8]) -> Result<Span, Want>
-        ensures { IfOk result (λ span. IsPrefixSpan prefix.now span) }
+        ensures keys { IfOk result (λ span. IsPrefixSpan prefix.now span) }
+        ensures left { IfOk result (λ span. span.left ≡ prefix.now) }
+        ensures own { IfOk result (λ span. IsIn span span.left) }
     {
         let left = Key::of(alloc, prefix)?;
         let right = prefix_end(alloc, without_last_ff(prefix))?;
         Ok(Span { left, right })
+    }
+
+    /// The span of one key: from it on, and before the key with a zero byte behind it.
+    pub fn of_key(alloc: Global, key: &[u8]) -> Result<Span, Want>
+        ensures only { IfOk result (λ span. IsKeySpan key.now span) }
+        ensures left { IfOk result (λ span. span.left ≡ key.now) }
+    {
+        let left = Key::of(alloc, key)?;
+        let mut end = Vec::new(alloc);
+        end.extend_from_slice(key)?;
+        end.push(0)?;
+        Ok(Span {
+            left,
+            right: Some(Key::from_bytes(end)),
+        })
     }
 }
 

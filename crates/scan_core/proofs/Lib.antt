@@ -1,3 +1,4 @@
 mod Distinct
 mod Keys
 mod Taking
+pub mod Scanned

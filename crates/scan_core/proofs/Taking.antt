@@ -40,6 +40,7 @@ keeps old reply rest done asked rows is left goes same = record {
   other = λ n e. is.other n (asked_before reply.chunk.next old.asked n (sym same ∙ e));
   end = same_end old.rest _ rest done goes ∙ is.end;
   at = λ e. begins_in old.whole old.rest _ rest done goes is.end (is.at left) e;
+  late = is.late;
 }
 
 pub takes : (old : Scanning) (reply : Reply) (rest : Span) (done : Bool) (asked : Option ℕ) (rows : List Row) → IsScan old → old.done ≡ false
@@ -63,4 +64,5 @@ loses old number numbers is asked are few = record {
   other = λ n e. cc;
   end = is.end;
   at = is.at;
+  late = is.late;
 }

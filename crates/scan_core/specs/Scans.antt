@@ -31,6 +31,8 @@ pub record IsScan (s : Scanning) : Type 0 where
   -- what is left ends where all of it ends, and begins in it, until nothing is left
   pub end : s.rest.right ≡ s.whole.right
   pub at : s.done ≡ false → IsIn s.whole s.rest.left
+  -- a shard is behind this scan only below its time
+  pub late : (upto : ℕ) → s.behind ≡ Some upto → upto < s.time
 
 -- the key was read: no key of what is left stands before it
 abbrev pub IsRead : Scanning → List ℕ → Type 0

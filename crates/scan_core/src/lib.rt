@@ -5,11 +5,13 @@
 #![tactic(auto)]
 
 mod fault;
+mod law;
 mod need;
 mod retired;
 mod scan;
 
 pub use fault::ScanFault;
+pub use law::{scan_done_law, scan_started_law, scan_taken_law};
 pub use need::Need;
 pub use scan::Scan;
 

@@ -212,6 +212,7 @@ impl Scan {
 
     /// The shard that was asked has rows up to a time below this scan's.
     pub fn behind(&mut self, upto: u64)
+        requires below { upto < self.old.time }
         ensures { self.new ≡ record self.old { behind = Some upto } }
     {
         self.behind = Some(upto);

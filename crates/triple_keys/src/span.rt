@@ -1,5 +1,6 @@
 //! The span of the keys whose ids agree with the bound ones.
 ghost use Rattle.std.specs.Prelude.{◌≡◌, ◌++◌, ◌<◌, ◌^◌, IfOk, IfSome, OnOk, OnErr};
+ghost use Rattle.fed_bytes.specs.Keys.{IsIn};
 ghost use Rattle.triple_keys.specs.Orders.{order_for};
 ghost use Rattle.triple_keys.specs.Keys.{IsBoundSpan, bound_bytes};
 
@@ -11,7 +12,8 @@ use std::alloc::Global;
 /// The span whose keys have the bound ids, in the order in which these stand first.
 pub fn span_of(alloc: Global, order: Order, bound: Bound) -> Result<Span, Want>
     requires { order ≡ order_for bound }
-    ensures { IfOk result (λ span. IsBoundSpan order bound span) }
+    ensures keys { IfOk result (λ span. IsBoundSpan order bound span) }
+    ensures own { IfOk result (λ span. IsIn span span.left) }
 {
     let bound = arrange(order, bound.subject, bound.predicate, bound.object);
     let mut prefix = Vec::new(alloc);
