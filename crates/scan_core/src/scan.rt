@@ -1,5 +1,5 @@
 //! The state of a scan.
-ghost use Rattle.std.specs.Prelude.{◌≡◌, ◌↔◌, ◌+◌, ◌++◌, ◌∷◌, ℕ, List, [], length, true, false, None, Some, IfErr, OnOk, OnErr, IsOk, IsTrue};
+ghost use Rattle.std.specs.Prelude.{◌≡◌, ◌↔◌, ◌+◌, ◌<◌, ◌++◌, ◌∷◌, ℕ, List, [], length, true, false, None, Some, IfErr, OnOk, OnErr, IsOk, IsTrue};
 ghost use Rattle.base_core.specs.Lists.{Has};
 ghost use Rattle.fed_bytes.specs.Keys.{IsIn, IsBeforeEnd};
 ghost use Rattle.scan_core.specs.Needs.{Needs};
