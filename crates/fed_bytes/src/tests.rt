@@ -9,6 +9,7 @@ fn the_end_of_a_prefix_is_its_last_byte_below_ff_one_higher(rt: HostRuntime) -> 
     assert!(rt; span.contains(b"\x61\xff\x00"));
     assert!(rt; !span.contains(b"\x62"));
     assert!(rt; Span::of_prefix(rt.alloc(), b"\xff")?.right.is_none());
+    assert!(rt; !Span::of_key(rt.alloc(), b"a")?.contains(b"a\x00"));
     Ok(())
 }
 
