@@ -1,7 +1,8 @@
 -- What the windows of a shard answer together is what the history says.
-use Rattle.std.proofs.Common.{◌≡◌, ◌<◌, ◌≤◌, ℕ, List, [], ◌∷◌, ◌++◌, map, refl, sym, ap, ◌∙◌, subst, arith, inl, inr}
+use Rattle.std.proofs.Common.{◌≡◌, ◌↔◌, ◌<◌, ◌≤◌, ℕ, List, [], ◌∷◌, ◌++◌, map, length, take, drop, refl, sym, ap, ◌∙◌, subst, arith, inl, inr}
 use Rattle.std.specs.Prelude.{Option, Some, None}
 use Rattle.std.specs.List.{AllByRecursion}
+use Rattle.std.proofs.lemmas.List.{take-append-drop, length-take-le}
 use Rattle.base_core.specs.Lists.{Has}
 use Rattle.fed_bytes.specs.declared.span.Span.{Span}
 use Rattle.fed_bytes.specs.Keys.{IsIn}
@@ -15,11 +16,12 @@ use Rattle.window_merge.specs.Together.{AreAdjacent as AdjacentBy, rows_of_all}
 use Rattle.window_merge.specs.Values.{IsValueCell, IsValueAt, IsPassed, AreValuesAt}
 use Rattle.change_model.specs.History.{History}
 use Rattle.change_model.specs.IndexRows.{IsLastRow}
+use Rattle.row_core.specs.declared.rows.Index.{Index}
 use Rattle.change_model.specs.Laws.{IsWritable, IsValue}
 use Rattle.change_model.specs.Windows.{WindowData, MayBeFound, WindowStandsFor}
 use Rattle.change_model.specs.WindowLaws.{AreAdjacent, ServesKey, HaveNone, IsFromNewest, IsLastAmong}
 use Rattle.change_model.proofs.AdjacentWindows.{last_among_law}
-use Rattle.change_model.proofs.Newest.{IsLastRow-one}
+use Rattle.change_model.proofs.Newest.{IsLastRow-one, IsLastRow-append}
 use Rattle.change_model.proofs.WindowAnswers.{some_last}
 use Rattle.disk_core.specs.Moments.{Told}
 use Rattle.shard_core.specs.declared.window.AnyWindow.{AnyWindow}
@@ -120,9 +122,30 @@ found_by : (rows : List Row) (key : List ℕ) (time floor : ℕ) (row : Row) (fo
 found_by rows key time floor row None last may (value, is) = absurd (not_deleted row.cell value is may.deleted)
 found_by rows key time floor row (Some found) last may value = subst (λ r. IsLast rows key time (Some r)) (sym (one_row row found may)) last
 
--- ---- a shard that stands for a history
-module _ (history : History) (floor : ℕ) (shard : ShardData) (time : ℕ) (stands : ShardStandsFor history floor shard) (writable : IsWritable history) (low : HaveFloorsUpTo time shard)
+-- ---- the history up to a time
+-- windows that stand for a history end within it
+ends_within : (index : Index) (history : History) (windows : List WindowData) (from upto : ℕ) → AreAdjacent from windows upto → AllByRecursion (WindowStandsFor index history) windows
+    → from ≤ length history → upto ≤ length history
+ends_within index history [] from upto adjacent stand begins = omega (arith, begins, adjacent)
+ends_within index history (window ∷ windows) from upto (same, adjacent) stand begins = ends_within index history windows window.upto upto adjacent stand.1 stand.0.known
+
+last_upto : (index : Index) (history : History) (key : List ℕ) (time : ℕ) (found : Option Row) → time ≤ length history
+    → (IsLastRow index history key time found ↔ IsLastRow index (take time history) key time found)
+last_upto index history key time found known =
+    let long : length (take time history) ≡ time = length-take-le time history known in
+    subst (λ (whole : History). IsLastRow index whole key time found ↔ IsLastRow index (take time history) key time found) (take-append-drop time history)
+    (IsLastRow-append index (take time history) (drop time history) key time found (omega (arith, long)))
+
+-- ---- a shard that stands for a history, which may be written up to a time
+module _ (history : History) (floor : ℕ) (shard : ShardData) (time : ℕ) (stands : ShardStandsFor history floor shard) (writable : IsWritable (take time history)) (low : HaveFloorsUpTo time shard)
     (reached : time ≤ shard.upto) where
+  known : time ≤ length history
+  known =
+      let ends : shard.upto ≤ length history = ends_within shard.index history shard.windows 0 shard.upto stands.shard_is.adjacent stands.stand (omega arith) in omega (arith, ends, reached)
+
+  upto : (key : List ℕ) (found : Option Row) → (IsLastRow shard.index history key time found ↔ IsLastRow shard.index (take time history) key time found)
+  upto key found = last_upto shard.index history key time found known
+
   serves : (key : List ℕ) → IsIn shard.span key → AllByRecursion (ServesKey shard.index history key time) shard.windows
   serves key within = each (ServesKey shard.index history key time) shard.windows (λ window there. record {
     stands = of_each (WindowStandsFor shard.index history) shard.windows stands.stand window there;
@@ -137,24 +160,25 @@ module _ (history : History) (floor : ℕ) (shard : ShardData) (time : ℕ) (sta
       (among shard.span shard.windows shard.upto key time found stands.shard_is.adjacent stands.shard_is.over last)
 
   to_history : (span : Span) (next : Option (List ℕ)) (row : Row) → IsValueAt (shard_rows shard) time row × IsPassed span next row.key
-      → IsLastValue history shard time row × IsAnswered shard span next row.key
+      → IsLastValue (take time history) shard time row × IsAnswered shard span next row.key
   to_history span next row ((last, value), passed) =
       let own = row_in shard.span shard.windows stands.shard_is.over row last.0 in
       let (found, is, may) = answers row.key (Some row) own last in (
-        (subst (IsLastRow shard.index history row.key time) may is, value_of row.cell value),
+        ((upto row.key (Some row)).0 (subst (IsLastRow shard.index history row.key time) may is), value_of row.cell value),
         record { asked = passed.0; own = own; before = passed.1 },
       )
 
-  of_history : (span : Span) (next : Option (List ℕ)) (row : Row) → IsLastValue history shard time row × IsAnswered shard span next row.key
+  of_history : (span : Span) (next : Option (List ℕ)) (row : Row) → IsLastValue (take time history) shard time row × IsAnswered shard span next row.key
       → IsValueAt (shard_rows shard) time row × IsPassed span next row.key
   of_history span next row ((last, value), answered) =
       let (found, own) = some_last (shard_rows shard) row.key time in
       let (is, is_last, may) = answers row.key found answered.own own in
-      let same = IsLastRow-one shard.index history row.key time is (Some row) writable is_last last in
+      let same = IsLastRow-one shard.index (take time history) row.key time is (Some row) writable ((upto row.key is).0 is_last) last in
       let newest = found_by (shard_rows shard) row.key time time row found own (subst (λ l. MayBeFound 0 time l found) same may) value in
       ((newest, value_cell row.cell value.0 value.1), (answered.asked, answered.before))
 
-  pub last_values : (span : Span) (most : ℕ) (chunk : Chunk) → AreValuesAt (shard_rows shard) span time most chunk → AreLastValues history shard span time chunk
+  pub last_values : (span : Span) (most : ℕ) (chunk : Chunk) → AreValuesAt (shard_rows shard) span time most chunk
+      → AreLastValues (take time history) shard span time chunk
   last_values span most chunk is = record {
     in_order = is.in_order;
     exactly = λ row. (λ there. to_history span chunk.next row ((is.exactly row).0 there), λ h. (is.exactly row).1 (of_history span chunk.next row h));

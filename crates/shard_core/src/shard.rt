@@ -1,5 +1,5 @@
 //! A shard.
-ghost use Rattle.std.specs.Prelude.{◌≡◌, ◌↔◌, ◌+◌, ◌<◌, ◌≤◌, ◌∷◌, [], ℕ, length, map, false, IfOk, IfErr, OnOk, OnErr, Err};
+ghost use Rattle.std.specs.Prelude.{◌≡◌, ◌↔◌, ◌+◌, ◌<◌, ◌≤◌, ◌∷◌, [], ℕ, length, map, take, false, IfOk, IfErr, OnOk, OnErr, Err};
 ghost use Rattle.row_core.specs.Rows.{AreChanges, StandInOrder};
 ghost use Rattle.window_core.specs.Windows.{IsPart, IsPassage};
 ghost use Rattle.window_merge.specs.Values.{AreValuesAt, AreAskedFor};
@@ -136,7 +136,9 @@ impl Shard {
         requires floors { HaveFloorsUpTo t self.now }
         requires most { 1 ≤ most }
         ensures behind { (upto : ℕ) → ((result ≡ Err (Behind upto)) ↔ ((upto ≡ self.now.upto) × (self.now.upto < t))) }
-        ensures values { (history : History) (floor : ℕ) → ShardStandsFor history floor self.now → IsWritable history → IfOk result (AreLastValues history self.now span.now t) }
+        // Of the history up to the time it is enough to know that it may be written.
+        ensures values { (history : History) (floor : ℕ) → ShardStandsFor history floor self.now → IsWritable (take t history)
+            → IfOk result (AreLastValues (take t history) self.now span.now t) }
         ensures rows { IfOk result (AreValuesAt (shard_rows self.now) span.now t most) }
         ensures part { IfOk result (IsPart self.now.span 0 self.now.upto span.now.left) }
         ensures passage { IfOk result (IsPassage self.now.span span.now.left most) }
