@@ -38,7 +38,7 @@ ArePlaced-length terms [] (places ∷ placed) are = absurd are
 ArePlaced-length terms (statement ∷ statements) [] are = absurd are
 ArePlaced-length terms (statement ∷ statements) (places ∷ placed) are = ap suc (ArePlaced-length terms statements placed are.1)
 
-terms_of-length : (statements : List Statement) → length (terms_of statements) ≡ length statements * 3
+pub terms_of-length : (statements : List Statement) → length (terms_of statements) ≡ length statements * 3
 terms_of-length [] = refl
 terms_of-length (statement ∷ statements) = let rest = terms_of-length statements in omega arith
 
@@ -46,7 +46,7 @@ known_length : (b : Bool) (known : List Term) (term : Term) → length (if b the
 known_length true known term = omega arith
 known_length false known term = let long = length-one_more known term in omega arith
 
-with_terms-length : (known terms : List Term) → length (with_terms known terms) ≤ length known + length terms
+pub with_terms-length : (known terms : List Term) → length (with_terms known terms) ≤ length known + length terms
 with_terms-length known [] = omega arith
 with_terms-length known (term ∷ terms) =
     let one = known_length (list_any (same_term term) known) known term in

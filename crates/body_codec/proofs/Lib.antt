@@ -1,5 +1,6 @@
 mod Agree
 mod Appearances
+mod BodySizes
 mod Changes
 mod Cuts
 mod Elements

@@ -16,7 +16,7 @@ mod spelled;
 mod write;
 
 pub use fault::BodyFault;
-pub use law::{one_body_law, one_change_law};
+pub use law::{body_size_law, one_body_law, one_change_law};
 pub use queue::{Receipt, Ticket};
 pub use read::read_body;
 pub use write::write_body;

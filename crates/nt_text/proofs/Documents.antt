@@ -11,7 +11,7 @@ use Rattle.term_core.specs.declared.term.Term.{Term}
 use Rattle.term_core.specs.declared.term.Term.TheVariants.{Iri, Literal, Tagged, Blank}
 use Rattle.base_core.specs.Lines.{lines_of}
 use Rattle.term_core.specs.Term.{IsStatement}
-use Rattle.nt_text.specs.Document.{Brings, AreLinesOf, IsDocument, IsBlankNode, HasLabel, IsFirstLabel, HasNoTimes}
+use Rattle.nt_text.specs.Document.{Brings, AreLinesOf, IsDocument, IsBlankNode, HasLabel, IsFirstLabel, HasNoBlankNode, HasNoTimes}
 use Rattle.nt_text.specs.Limits.{HasShortTerms, AreWithinLimits}
 use Rattle.nt_text.specs.Reading.{IsRead, line_at, noted_label, has_blank_node, is_blank_node}
 use Rattle.nt_text.proofs.Statements.{IsStatement-from_triple, HasNoTimes-from_triple}
@@ -98,6 +98,22 @@ HasNoTimes-from_lines (line ∷ lines) statements h =
     first (Some statement) b = (HasNoTimes-from_triple line statement b, tt)
 
 -- ---- the first blank node
+
+-- where no line has a blank node, no statement has one
+pub HasNoBlankNode-from_lines : (lines : List (List ℕ)) (number : ℕ) (statements : List Statement) → AreLinesOf lines statements → IsFirstLabel lines number None
+    → AllByRecursion HasNoBlankNode statements
+HasNoBlankNode-from_lines [] number statements h none = subst (λ (x : List Statement). AllByRecursion HasNoBlankNode x) (sym h) tt
+HasNoBlankNode-from_lines (line ∷ lines) number statements h (inl found) = absurd (no_label number found.1)
+  where
+    no_label : (n : ℕ) → None ≡ Some n → ⊥
+    no_label n e = cc
+HasNoBlankNode-from_lines (line ∷ lines) number statements h (inr (none, behind)) =
+    subst (λ (x : List Statement). AllByRecursion HasNoBlankNode x) (sym h.4)
+    (All-append HasNoBlankNode (option_to_list h.0) h.1 (first h.0 h.2) (HasNoBlankNode-from_lines lines (number + 1) h.1 h.3 behind))
+  where
+    first : (brought : Option Statement) → Brings line brought → AllByRecursion HasNoBlankNode (option_to_list brought)
+    first None b = tt
+    first (Some statement) b = ((λ subject. none (statement, b, inl subject), λ object. none (statement, b, inr object)), tt)
 
 blank_takes : (term : Term) → is_blank_node term ≡ true → IsBlankNode term
 blank_takes (Iri iri) h = absurd cc

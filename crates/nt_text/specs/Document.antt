@@ -114,6 +114,10 @@ IsBlankNode (Blank at label) = Unit {0}
 abbrev pub HasLabel : List ℕ → Type 0
 HasLabel line = (statement : Statement) × IsTriple line statement × (IsBlankNode statement.subject ⊎ IsBlankNode statement.object)
 
+-- none of the statement's terms is a blank node
+abbrev pub HasNoBlankNode : Statement → Type 0
+HasNoBlankNode statement = (IsBlankNode statement.subject → ⊥) × (IsBlankNode statement.object → ⊥)
+
 -- the number of the first line that has a blank node, where the lines are numbered from this one
 abbrev pub IsFirstLabel : List (List ℕ) → ℕ → Option ℕ → Type 0
 IsFirstLabel [] number first = first ≡ None

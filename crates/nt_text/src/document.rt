@@ -1,5 +1,5 @@
 //! Reading N-Triples documents.
-ghost use Rattle.std.specs.Prelude.{◌≡◌, ◌≤◌, ◌+◌, ◌*◌, ◌++◌, List, length, IfOk, IfErr, IsErrAnd, OnOk, MatchResult};
+ghost use Rattle.std.specs.Prelude.{◌≡◌, ◌≤◌, ◌+◌, ◌*◌, ◌++◌, List, length, None, IfOk, IfErr, IsErrAnd, OnOk, MatchResult};
 ghost use Rattle.std.specs.List.{AllByRecursion};
 ghost use Rattle.std.specs.Option.{option_to_list};
 ghost use Rattle.base_core.specs.declared.lines.LineEnd.TheVariants.{Any};
@@ -7,7 +7,7 @@ ghost use Rattle.term_core.specs.declared.statement.Statement.{Statement as Trip
 ghost use Rattle.base_core.specs.Lines.{lines_of};
 ghost use Rattle.term_core.specs.Term.{IsStatement};
 ghost use Rattle.nt_text.specs.declared.document.DocFault.TheVariants.{NoMemory};
-ghost use Rattle.nt_text.specs.Document.{IsDocument, IsFirstLabel, HasNoTimes};
+ghost use Rattle.nt_text.specs.Document.{IsDocument, IsFirstLabel, HasNoBlankNode, HasNoTimes};
 ghost use Rattle.nt_text.specs.Faults.{IsDocumentFault, IsFirstBadLine, IsNoMemory, IsNoMemoryOr};
 ghost use Rattle.nt_text.specs.Limits.{AreWithinLimits, all_spelled, largest_document, most_spelled};
 ghost use Rattle.nt_text.specs.Reading.{IsRead, line_at, noted_label, has_blank_node, is_blank_node};
@@ -53,6 +53,7 @@ pub fn read_document(alloc: Global, bytes: &[u8]) -> Result<Document, DocFault>
     // What is read is what the document says.
     ensures found { IfOk result (λ document. IsDocument bytes.now document.statements) }
     ensures label { IfOk result (λ document. IsFirstLabel (lines_of Any bytes.now) 1 document.first_label) }
+    ensures plain { IfOk result (λ document. document.first_label ≡ None → AllByRecursion HasNoBlankNode document.statements) }
     ensures statements { IfOk result (λ document. AllByRecursion IsStatement document.statements) }
     ensures times { IfOk result (λ document. AllByRecursion HasNoTimes document.statements) }
     ensures few { IfOk result (λ document. AreWithinLimits document.statements) }

@@ -1,10 +1,11 @@
-use Rattle.std.proofs.Common.{◌≡◌, ◌≤◌, length, refl, rules}
+use Rattle.std.proofs.Common.{◌≡◌, ◌≤◌, ℕ, Option, length, refl, subst, rules}
+use Rattle.nt_text.specs.Document.{IsFirstLabel}
 use Rattle.std.proofs.lemmas.Result.{err_from_is_err_and}
 use Rattle.base_core.specs.declared.lines.LineEnd.TheVariants.{Any}
 use Rattle.base_core.specs.Lines.{lines_of}
 use Rattle.nt_text.specs.Limits.{all_spelled, largest_document, most_statements, most_spelled}
 use Rattle.nt_text.proofs.SpelledLengths.{document_length, within_most}
-use Rattle.nt_text.proofs.Documents.{AreLinesOf-same, IsStatement-from_lines, HasNoTimes-from_lines, SoFar-more, SoFar-end}
+use Rattle.nt_text.proofs.Documents.{AreLinesOf-same, IsStatement-from_lines, HasNoBlankNode-from_lines, HasNoTimes-from_lines, SoFar-more, SoFar-end}
 use Rattle.nt_text.proofs.BadLines.{fault_cause, fault_only, no_bad_line, fault_is}
 use Rattle.nt_text.proofs.document.read_document.Goals as goal
 
@@ -39,6 +40,12 @@ pub returns-clause-label : goal.returns-clause-label
 returns-clause-label c =
     let whole = SoFar-end c.args.bytes.now c.lines.rest.now c.lines.number c.lines.first_label c.lines.statements.items c.lines.invariant (c.in_default.ensures.none.0 refl) in
     whole.label
+
+pub returns-clause-plain : goal.returns-clause-plain
+returns-clause-plain c = λ none.
+    let whole = SoFar-end c.args.bytes.now c.lines.rest.now c.lines.number c.lines.first_label c.lines.statements.items c.lines.invariant (c.in_default.ensures.none.0 refl) in
+    rw c.of.ensures (HasNoBlankNode-from_lines (lines_of Any c.args.bytes.now) 1 c.lines.statements.items whole.document
+    (subst (λ (first : Option ℕ). IsFirstLabel (lines_of Any c.args.bytes.now) 1 first) none whole.label))
 
 pub returns-clause-few : goal.returns-clause-few
 returns-clause-few c =
