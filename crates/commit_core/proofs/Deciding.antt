@@ -8,6 +8,7 @@ use Rattle.record_log.specs.declared.log.RecordLog.{RecordLog}
 use Rattle.record_log.specs.Devices.{MomentsHave, ChangesOnly}
 use Rattle.record_log.specs.Items.{with_one, Decides, IsMidway, CarriesItems, LogsItems, LogsSome}
 use Rattle.record_log.specs.Logs.{IsSameLog}
+use Rattle.record_log.specs.Sizes.{undecided_size}
 use Rattle.record_log.proofs.Items.{with_one-map, decides, moments_items, midway_first, moments_midway}
 use Rattle.record_log.proofs.Moving.{moments_weaker, moments_further}
 use Rattle.commit_core.specs.declared.fault.CommitFault.{CommitFault}
@@ -53,6 +54,9 @@ mends_before fault_count old new log same mends = record {
   kept = mends.kept;
   is = mends.is;
   counted = mends.counted ∙ ap (λ n. cond mends.kept (n + 1) n) (ap length same.sizes);
+  limit = mends.limit ∙ same.limit;
+  sizes = mends.sizes ∙ ap (λ sizes. cond mends.kept (with_one sizes (undecided_size log.extent.stage)) sizes) same.sizes
+      ∙ ap (λ stage. cond mends.kept (with_one old.log.extent.sizes (undecided_size stage)) old.log.extent.sizes) same.stage;
   settled = mends.settled;
   later = mends.later;
   untried = λ none. let u = mends.untried none in (u.0, u.1, same_log_further old.log log new.log same u.2);

@@ -1,8 +1,10 @@
 -- For the layers above: images of all disks hold a history, from what the log's images spell and from what the homes' disks hold.
-use Rattle.std.proofs.Common.{ℕ, List, [], ◌∷◌, ◌++◌, map, Option, Some, None, refl, sym, subst, inl, inr}
+use Rattle.std.proofs.Common.{◌≡◌, ◌<◌, ◌-◌, ℕ, List, [], ◌∷◌, ◌++◌, map, length, Option, Some, None, refl, sym, subst, ◌∙◌, inl, inr}
+use Rattle.std.proofs.lemmas.Option.{slice_get_within}
+use Rattle.change_model.proofs.Members.{slice_get-append}
 use Rattle.std.specs.List.{AllByRecursion}
 use Rattle.record_log.specs.Items.{Decides, IsMidway, LogsItems}
-use Rattle.commit_core.specs.Holds.{Holds, AreHeld, IsHeldIn, MayBeHeld, HeldHistoryLaw}
+use Rattle.commit_core.specs.Holds.{Holds, AreHeld, IsHeldIn, MayBeHeld, HeldHistoryLaw, HaveBodies, IsNamed, NamedHeldLaw}
 use Rattle.commit_core.specs.Records.{Recorded, record_bytes, committed_in}
 
 each_more : (services : ℕ) (images : ℕ → ℕ → List ℕ) (entries : List Recorded) (entry : Recorded) → AllByRecursion (IsHeldIn services images) entries → IsHeldIn services images entry
@@ -32,3 +34,34 @@ log_holds services images Are (found, are, log) held = (found, are, record { ent
 pub held_history : HeldHistoryLaw
 held_history services images entries waiting coming held may_wait may_come spelled =
     log_holds services images (IsMidway entries waiting coming) spelled (λ found midway. held_midway services images entries waiting coming found held may_wait may_come midway)
+
+-- an entry that is named among the bodies is held
+named_held : (services : ℕ) (images : ℕ → ℕ → List ℕ) (bodies : ℕ → List (List ℕ)) (entry : Recorded) → HaveBodies services images bodies → IsNamed services bodies entry
+    → IsHeldIn services images entry
+named_held services images bodies entry have named =
+    let found = have entry.home named.first named.last in
+    let own = bodies entry.home in
+    let within = slice_get_within own (entry.number - 1) named.body named.at.named in
+    record {
+      first = named.first;
+      last = named.last;
+      bodies = own ++ found.0;
+      has = found.1;
+      numbered = named.at.numbered;
+      fits = named.fits;
+      body = named.body;
+      named = slice_get-append own found.0 (entry.number - 1) within ∙ named.at.named;
+      spells = named.spells;
+      has_spelling = named.has_spelling;
+    }
+
+each_held : (services : ℕ) (images : ℕ → ℕ → List ℕ) (bodies : ℕ → List (List ℕ)) (entries : List Recorded) → HaveBodies services images bodies
+    → AllByRecursion (IsNamed services bodies) entries → AllByRecursion (IsHeldIn services images) entries
+each_held services images bodies [] have named = tt
+each_held services images bodies (entry ∷ entries) have named = (named_held services images bodies entry have named.0, each_held services images bodies entries have named.1)
+
+pub named_are_held : NamedHeldLaw
+named_are_held services images bodies entries have named = record {
+  journals = λ disk first last. let found = have disk first last in (bodies disk ++ found.0, found.1);
+  held = each_held services images bodies entries have named;
+}

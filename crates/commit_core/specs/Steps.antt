@@ -9,7 +9,7 @@ use Rattle.change_model.specs.declared.history.Change.{Change}
 use Rattle.change_model.specs.declared.history.Committed.{Committed}
 use Rattle.change_model.specs.declared.history.Origin.{Origin}
 use Rattle.record_log.specs.Items.{with_one}
-use Rattle.record_log.specs.Logs.{needs_mend, count_of, IsFull, IsSameLog}
+use Rattle.record_log.specs.Logs.{needs_mend, count_of, limit_of, sizes_of, undecided_of, IsFull, IsSameLog}
 use Rattle.commit_core.specs.declared.fault.CommitFault.{CommitFault}
 use Rattle.commit_core.specs.declared.fault.CommitFault.TheVariants.{NoMemory, Unsure, HistoryFull, DiskFault, LogFull}
 use Rattle.commit_core.specs.Rooms.{Room, Waited, change_of}
@@ -57,6 +57,8 @@ module _ {D : Type 0} (fault_count : D → ℕ) where
     pub kept : Bool
     pub is : new ≡ over new (decided kept old)
     pub counted : count_of new.log ≡ (if kept then count_of old.log + 1 else count_of old.log)
+    pub limit : limit_of new.log ≡ limit_of old.log
+    pub sizes : sizes_of new.log ≡ (if kept then with_one (sizes_of old.log) (undecided_of old.log) else sizes_of old.log)
     pub settled : needs_mend new.log ≡ false
     pub later : fault_count old.disk ≤ fault_count new.disk
     pub untried : old.undecided ≡ None → (kept ≡ false) × (new.disk ≡ old.disk) × IsSameLog old.log new.log
@@ -91,6 +93,8 @@ module _ {D : Type 0} (fault_count : D → ℕ) where
     }
     pub time_is : time ≡ length new.seen
     pub counted : count_of new.log ≡ count_of old.log + 1
+    pub limit : limit_of new.log ≡ limit_of old.log
+    pub sizes : sizes_of new.log ≡ sizes_of old.log ++ RECORD_SIZE ∷ []
     pub later : fault_count old.disk ≤ fault_count new.disk
     pub whole : note_after.seen ≡ new.seen
     pub board : note_after.board ≡ note.board
@@ -110,6 +114,9 @@ module _ {D : Type 0} (fault_count : D → ℕ) where
     pub risen : HasRisen (fault_count old.disk) count
     pub shown : count ≡ fault_count new.disk
     pub counted : count_of new.log ≡ count_of old.log
+    pub limit : limit_of new.log ≡ limit_of old.log
+    pub sizes : sizes_of new.log ≡ sizes_of old.log
+    pub waits : undecided_of new.log ≡ Some RECORD_SIZE
     pub whole : note_after.seen ≡ new.seen
     pub board : note_after.board ≡ note.board
     pub own : (bearing : Bearing Committed) → note.bears ≡ bearing ∷ [] → note_after.bears ≡ record bearing { unsure = bearing.unsure ++ committed ∷ [] } ∷ []

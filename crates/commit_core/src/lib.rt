@@ -24,7 +24,7 @@ mod state;
 mod turn;
 
 pub use fault::CommitFault;
-pub use law::held_history_law;
+pub use law::{held_history_law, named_held_law};
 pub use state::CommitState;
 
 #[cfg(test)]
